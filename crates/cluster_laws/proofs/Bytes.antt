@@ -13,8 +13,8 @@ use Rattle.fuse_msgs.specs.declared.request.Request.{Request}
 use Rattle.lf_base.specs.declared.errno.Errno.{Errno}
 use Rattle.lf_disk.specs.History.{History}
 use Rattle.lf_sqlite_pages.specs.Image.{DatabaseImage, image_bytes}
-use Rattle.file_view.specs.declared.plan.Plan.{Plan}
-use Rattle.file_view.specs.declared.plan.Plan.TheVariants as plan
+use Rattle.file_view.specs.declared.requests.Plan.{Plan}
+use Rattle.file_view.specs.declared.requests.Plan.TheVariants as plan
 use Rattle.file_view.specs.Errno.{EAGAIN}
 use Rattle.file_view.specs.Done.{HasRead, IsDoneAt}
 use Rattle.file_view.specs.Served.{Served}

@@ -9,8 +9,8 @@ use Rattle.lf_sqlite_pages.specs.Image.{DatabaseImage, IsImage}
 use Rattle.lf_sqlite_pages.specs.PageSize.{IsPageSize, is_page_size}
 use Rattle.lf_sqlite_pages.proofs.Laws.{length-apply}
 use Rattle.file_view.specs.declared.fault.ViewFault.{ViewFault}
-use Rattle.file_view.specs.declared.plan.Plan.{Plan}
-use Rattle.file_view.specs.declared.plan.Plan.TheVariants as plan
+use Rattle.file_view.specs.declared.requests.Plan.{Plan}
+use Rattle.file_view.specs.declared.requests.Plan.TheVariants as plan
 use Rattle.file_view.specs.Endings.{applied, committed}
 use Rattle.file_view.specs.Overlay.{StandsOver, AwaitsOver}
 use Rattle.file_view.specs.Served.{Served}

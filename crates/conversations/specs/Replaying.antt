@@ -11,8 +11,8 @@ use Rattle.fuse_msgs.specs.declared.fault.BadMessage.{BadMessage}
 use Rattle.fuse_msgs.specs.declared.request.Request.{Request}
 use Rattle.fuse_msgs.specs.Message.{IsMessage, refusal}
 use Rattle.file_view.specs.declared.fault.ViewFault.{ViewFault}
-use Rattle.file_view.specs.declared.plan.Plan.{Plan}
-use Rattle.file_view.specs.declared.plan.Plan.TheVariants as plan
+use Rattle.file_view.specs.declared.requests.Plan.{Plan}
+use Rattle.file_view.specs.declared.requests.Plan.TheVariants as plan
 use Rattle.file_view.specs.Done.{IsDone}
 use Rattle.file_view.specs.Endings.{applied, committed, dropped, ended}
 use Rattle.file_view.specs.Needs.{needs_of}

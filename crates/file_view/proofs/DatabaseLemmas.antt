@@ -20,7 +20,7 @@ use Rattle.lf_sqlite_pages.specs.LockPage.{lock_page_of}
 use Rattle.lf_sqlite_pages.specs.PageSize.{IsPageSize, is_page_size}
 use Rattle.wal_watch.specs.Frames.{committed_count}
 use Rattle.wal_watch.specs.News.{last_size}
-use Rattle.file_view.specs.declared.scene.Scene.{Scene}
+use Rattle.file_view.specs.declared.view.Scene.{Scene}
 use Rattle.file_view.specs.Acting.{is_actor, writes}
 use Rattle.file_view.specs.DatabaseRules.{first_page, page_count, are_pages, most_pages, holds_frame, hold_frames, uncommitted_rows, checkpoint_rows, sized_write_rows, kept_at_most, states_other, writer_after, checkpoint_resize_rows, resize_rows, sized_resize_rows, resizes, is_log_size, states_size}
 use Rattle.file_view.specs.DatabaseParts.{IsOwned}

@@ -4,7 +4,7 @@ use Rattle.std.specs.Prelude.{◌==◌, nat_lt}
 use Rattle.std.proofs.lemmas.Bool.{cases_Bool}
 use Rattle.journal_watch.specs.Journal.{is_active}
 use Rattle.file_view.specs.declared.journal.JournalCall.{JournalCall}
-use Rattle.file_view.specs.declared.scene.Scene.{Scene}
+use Rattle.file_view.specs.declared.view.Scene.{Scene}
 use Rattle.file_view.specs.DatabaseRules.{write_size, page_count, most_pages, kept_at_most, states_other, uncommitted_rows, checkpoint_rows, checkpoint_resize_rows, resize_rows, sized_write_rows, sized_resize_rows, database_write_rows, database_size_rows}
 use Rattle.database_file.specs.DatabaseFile.{count_over}
 use Rattle.file_view.specs.Errno.{EAGAIN, EIO, EINVAL, EFBIG, EROFS}

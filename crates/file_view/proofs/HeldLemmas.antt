@@ -9,7 +9,7 @@ use Rattle.database_under_log.specs.Staying.{WaitingWrite}
 use Rattle.lf_sqlite_pages.specs.Blocks.{ByteRoom, IsWithin}
 use Rattle.file_view.specs.DatabaseState.{DatabaseState, HeldWrite}
 use Rattle.file_view.specs.HeldParts.{before, bytes_left, held_of, without_added, Remembers}
-use Rattle.file_view.specs.declared.database.Held.{Held}
+use Rattle.file_view.specs.declared.database.holding.Held.{Held}
 
 -- where no write waits, the file is what there is
 pub free-file : (file : DatabaseFile) (held : Option Held) (s : DatabaseState) → record { file = before file held; held = option_map (held_of file) held } ≡ s → s.held ≡ None →

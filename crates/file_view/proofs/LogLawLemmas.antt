@@ -9,7 +9,7 @@ use Rattle.lf_sqlite_pages.specs.Image.{DatabaseImage}
 use Rattle.lf_sqlite_pages.proofs.Laws.{length-apply}
 use Rattle.wal_watch.specs.Frames.{page_size_in}
 use Rattle.wal_watch.specs.News.{last_size}
-use Rattle.file_view.specs.declared.scene.Scene.{Scene}
+use Rattle.file_view.specs.declared.view.Scene.{Scene}
 use Rattle.file_view.specs.LogLaws.{StandsOver, CommitsOver, KeepsOver}
 use Rattle.file_view.specs.LogRules.{FollowsImage, LogCommits, LogKeeps, LogWaits, LogDone, log_after, log_written}
 use Rattle.file_view.specs.Served.{Served, log_contents}

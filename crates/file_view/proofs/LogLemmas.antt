@@ -12,7 +12,7 @@ use Rattle.wal_watch.proofs.LawLemmas.{keeps_count}
 use Rattle.wal_watch.proofs.StayLemmas.{take-resized}
 use Rattle.database_file.specs.DatabaseFile.{clean, is_clean}
 use Rattle.database_file.proofs.CleanLemmas.{clean-is}
-use Rattle.file_view.specs.declared.scene.Scene.{Scene}
+use Rattle.file_view.specs.declared.view.Scene.{Scene}
 use Rattle.file_view.specs.DatabaseState.{HeldWrite}
 use Rattle.file_view.specs.LogRules.{log_cut_rows, log_unlink_rows}
 use Rattle.file_view.specs.Refusal.{first_refusal}

@@ -15,7 +15,7 @@ use Rattle.wal_watch.specs.Refusals.{IsSoundCut, CutsCommitted}
 use Rattle.wal_watch.proofs.CommitLemmas.{has_committed}
 use Rattle.wal_watch.proofs.LawLemmas.{keeps_count, keeps_frames, keeps_size, end_is}
 use Rattle.wal_watch.proofs.StayLemmas.{take-resized}
-use Rattle.file_view.specs.declared.scene.Scene.{Scene}
+use Rattle.file_view.specs.declared.view.Scene.{Scene}
 use Rattle.file_view.specs.LogRules.{log_cut_rows, log_unlink_rows, log_cut, log_removed}
 use Rattle.file_view.specs.Overlay.{without_uncommitted, IsOverImage, StandsOver}
 use Rattle.file_view.specs.Refusal.{first_refusal}

@@ -10,7 +10,7 @@ use Rattle.lf_base.specs.declared.errno.Errno.{Errno}
 use Rattle.wal_watch.specs.Frames.{is_header, page_size_in, committed_end}
 use Rattle.wal_watch.specs.Refusals.{BreaksHeader, ChangesCommitted, IsSoundWrite}
 use Rattle.database_under_log.specs.Fault.{wanted_size}
-use Rattle.file_view.specs.declared.scene.Scene.{Scene}
+use Rattle.file_view.specs.declared.view.Scene.{Scene}
 use Rattle.file_view.specs.Errno.{EPERM}
 use Rattle.file_view.specs.LogParts.{log_owner_rows, log_own_rows, begins_anew}
 use Rattle.file_view.specs.LogRules.{breaks_header, changes_committed, changes_header, log_write_rows, log_commit_rows}

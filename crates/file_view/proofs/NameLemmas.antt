@@ -19,8 +19,8 @@ use Rattle.lf_sqlite_pages.specs.Image.{DatabaseImage}
 use Rattle.file_view.specs.declared.fault.ViewFault.{ViewFault}
 use Rattle.file_view.specs.declared.journal.JournalCall.{JournalCall}
 use Rattle.file_view.specs.declared.journal.JournalCall.TheVariants as call
-use Rattle.file_view.specs.declared.plan.Plan.{Plan}
-use Rattle.file_view.specs.declared.scene.Scene.{Scene}
+use Rattle.file_view.specs.declared.requests.Plan.{Plan}
+use Rattle.file_view.specs.declared.view.Scene.{Scene}
 use Rattle.file_view.specs.DatabaseRules.{write_size, sized_write_rows, database_write_rows, resizes}
 use Rattle.file_view.specs.Done.{WritesDatabase, SizesDatabase, IsWritten, IsSized, IsUnlinked, IsDoneAt, IsDone}
 use Rattle.file_view.specs.Errno.{EIO, EROFS}

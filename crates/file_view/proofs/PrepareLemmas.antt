@@ -27,7 +27,7 @@ use Rattle.database_under_log.specs.Waiting.{IsReady, IsStored, HasRoomFor, Lead
 use Rattle.database_under_log.specs.declared.waiting.LogCommit.{LogCommit}
 use Rattle.file_view.specs.DatabaseState.{DatabaseState, HeldWrite}
 use Rattle.file_view.specs.HeldParts.{before, held_of, IsSettled, IsLogStored, IsLogHeld, LogWrites, LogWrote, held_for}
-use Rattle.file_view.specs.declared.database.Held.{Held}
+use Rattle.file_view.specs.declared.database.holding.Held.{Held}
 use Rattle.file_view.specs.LogRules.{FollowsImage, IsMade, commits_frames}
 use Rattle.file_view.proofs.HeldLemmas.{free-file}
 

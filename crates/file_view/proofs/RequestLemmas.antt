@@ -14,7 +14,7 @@ use Rattle.file_view.specs.declared.fault.ViewFault.{ViewFault}
 use Rattle.file_view.specs.declared.fault.ViewFault.TheVariants as fault
 use Rattle.file_view.specs.declared.journal.JournalCall.{JournalCall}
 use Rattle.file_view.specs.declared.journal.JournalCall.TheVariants as call
-use Rattle.file_view.specs.declared.scene.Scene.{Scene}
+use Rattle.file_view.specs.declared.view.Scene.{Scene}
 use Rattle.file_view.specs.DatabaseRules.{write_size, page_count, most_pages, sized_write_rows, database_write_rows}
 use Rattle.file_view.specs.Errno.{ENOENT, EIO, EBADF, EACCES, ENOSPC, EROFS}
 use Rattle.file_view.specs.HandleRules.{is_served, is_known, is_open_at}

@@ -26,9 +26,9 @@ use Rattle.lf_sqlite_pages.specs.PageSize.{IsPageSize}
 use Rattle.file_view.specs.declared.fault.ViewFault.{ViewFault}
 use Rattle.file_view.specs.declared.journal.JournalCall.{JournalCall}
 use Rattle.file_view.specs.declared.journal.JournalCall.TheVariants as call
-use Rattle.file_view.specs.declared.plan.Plan.{Plan}
-use Rattle.file_view.specs.declared.plan.Plan.TheVariants as plan
-use Rattle.file_view.specs.declared.scene.Scene.{Scene}
+use Rattle.file_view.specs.declared.requests.Plan.{Plan}
+use Rattle.file_view.specs.declared.requests.Plan.TheVariants as plan
+use Rattle.file_view.specs.declared.view.Scene.{Scene}
 use Rattle.file_view.specs.Done.{MayCommit, IsWritten, IsSized, IsUnlinked, IsDoneAt, IsDone}
 use Rattle.file_view.specs.JournalRules.{ends_writing, finishes, JournalDone}
 use Rattle.file_view.specs.LockRules.{locks_at, after_wish}

@@ -24,10 +24,10 @@ use Rattle.lf_sqlite_pages.specs.Image.{DatabaseImage}
 use Rattle.wal_watch.specs.Frames.{committed_count}
 use Rattle.file_view.specs.declared.journal.JournalCall.{JournalCall}
 use Rattle.file_view.specs.declared.journal.JournalCall.TheVariants as call
-use Rattle.file_view.specs.declared.plan.Plan.{Plan}
-use Rattle.file_view.specs.declared.plan.Plan.TheVariants as plan
-use Rattle.file_view.specs.declared.role.Role.TheVariants as role
-use Rattle.file_view.specs.declared.scene.Scene.{Scene}
+use Rattle.file_view.specs.declared.requests.Plan.{Plan}
+use Rattle.file_view.specs.declared.requests.Plan.TheVariants as plan
+use Rattle.file_view.specs.declared.view.Role.TheVariants as role
+use Rattle.file_view.specs.declared.view.Scene.{Scene}
 use Rattle.file_view.specs.Acting.{with_locks}
 use Rattle.file_view.specs.Done.{IsReplied, MayCommit, IsWritten, IsSized, IsUnlinked, IsDoneAt}
 use Rattle.file_view.specs.Endings.{ended}

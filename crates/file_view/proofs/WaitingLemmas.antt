@@ -20,9 +20,9 @@ use Rattle.fuse_msgs.specs.declared.request.Op.TheVariants as op
 use Rattle.lf_base.specs.FileBytes.{written}
 use Rattle.lf_sqlite_pages.specs.Image.{DatabaseImage}
 use Rattle.file_view.specs.declared.journal.JournalCall.TheVariants as call
-use Rattle.file_view.specs.declared.plan.Plan.{Plan}
-use Rattle.file_view.specs.declared.plan.Plan.TheVariants as plan
-use Rattle.file_view.specs.declared.scene.Scene.{Scene}
+use Rattle.file_view.specs.declared.requests.Plan.{Plan}
+use Rattle.file_view.specs.declared.requests.Plan.TheVariants as plan
+use Rattle.file_view.specs.declared.view.Scene.{Scene}
 use Rattle.file_view.specs.Acting.{is_writer, with_locks}
 use Rattle.file_view.specs.DatabaseState.{HeldWrite}
 use Rattle.file_view.specs.Done.{IsReplied, IsWritten, IsSized, IsUnlinked, IsDoneAt}

@@ -17,7 +17,7 @@ use Rattle.lf_sqlite_pages.specs.Image.{DatabaseImage}
 use Rattle.wal_watch.specs.Frames.{committed_count, page_size_in}
 use Rattle.wal_watch.specs.News.{HoldsFrame, last_size}
 use Rattle.wal_watch.proofs.LawLemmas.{last_some}
-use Rattle.file_view.specs.declared.scene.Scene.{Scene}
+use Rattle.file_view.specs.declared.view.Scene.{Scene}
 use Rattle.file_view.specs.Acting.{writes}
 use Rattle.file_view.specs.DatabaseRules.{write_size, first_page, page_count, most_pages, kept_at_most, states_other, holds_frame, hold_frames, uncommitted_rows, checkpoint_rows, checkpoint_resize_rows, resize_rows, sized_write_rows, sized_resize_rows, database_write_rows, database_size_rows, resizes, IsDatabaseChanged, IsDatabaseWritten, IsDatabaseSized}
 use Rattle.file_view.specs.Done.{WritesDatabase, SizesDatabase}

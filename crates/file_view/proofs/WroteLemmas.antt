@@ -22,7 +22,7 @@ use Rattle.wal_watch.specs.News.{first_new}
 use Rattle.wal_watch.specs.Refusals.{IsSoundWrite}
 use Rattle.wal_watch.proofs.LawLemmas.{keeps_count}
 use Rattle.file_view.specs.declared.journal.JournalCall.{JournalCall}
-use Rattle.file_view.specs.declared.scene.Scene.{Scene}
+use Rattle.file_view.specs.declared.view.Scene.{Scene}
 use Rattle.file_view.specs.declared.view.View.TheInside.{Inside}
 use Rattle.file_view.specs.DatabaseState.{DatabaseState, HeldWrite}
 use Rattle.file_view.specs.HeldParts.{LogWrote}

@@ -4,7 +4,7 @@ use Rattle.byte_locks.specs.declared.lock_id.LockId.TheVariants as lock
 use Rattle.byte_locks.specs.LockList.{writer_of}
 use Rattle.database_file.specs.Writing.{AreDataPages, TakesPages}
 use Rattle.journal_watch.specs.Journal.{is_active}
-use Rattle.file_view.specs.declared.scene.Scene.{Scene}
+use Rattle.file_view.specs.declared.view.Scene.{Scene}
 use Rattle.file_view.specs.DatabaseRules.{first_page, resizes}
 use Rattle.file_view.specs.Served.{Served, has_committed_frames}
 

@@ -17,7 +17,7 @@ use Rattle.lf_sqlite_pages.specs.Image.{DatabaseImage}
 use Rattle.lf_sqlite_pages.specs.LockPage.{lock_page_of}
 use Rattle.wal_watch.specs.Frames.{committed_count, number_in, size_in, page_in}
 use Rattle.wal_watch.specs.News.{last_size}
-use Rattle.file_view.specs.declared.scene.Scene.{Scene}
+use Rattle.file_view.specs.declared.view.Scene.{Scene}
 use Rattle.file_view.specs.Acting.{writes}
 use Rattle.file_view.specs.Errno.{EPERM, EIO, EAGAIN, EACCES, EINVAL, EFBIG, ENOSPC, EROFS}
 use Rattle.file_view.specs.JournalState.{journal_page_size}

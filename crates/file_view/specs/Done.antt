@@ -12,9 +12,9 @@ use Rattle.fuse_msgs.specs.declared.request.Request.{Request}
 use Rattle.lf_sqlite_pages.specs.Change.{PageChange}
 use Rattle.lf_sqlite_pages.specs.Image.{DatabaseImage}
 use Rattle.file_view.specs.declared.journal.JournalCall.TheVariants as call
-use Rattle.file_view.specs.declared.plan.Plan.{Plan}
-use Rattle.file_view.specs.declared.plan.Plan.TheVariants as plan
-use Rattle.file_view.specs.declared.scene.Scene.{Scene}
+use Rattle.file_view.specs.declared.requests.Plan.{Plan}
+use Rattle.file_view.specs.declared.requests.Plan.TheVariants as plan
+use Rattle.file_view.specs.declared.view.Scene.{Scene}
 use Rattle.file_view.specs.DatabaseRules.{write_size, IsDatabaseWritten, DatabaseSized}
 use Rattle.file_view.specs.HandleRules.{size_at, IsOpened, released, flushed}
 use Rattle.file_view.specs.JournalRules.{JournalDone}

@@ -7,7 +7,7 @@ use Rattle.byte_locks.specs.LockEntry.{on_file}
 use Rattle.byte_locks.specs.LockList.{without}
 use Rattle.file_handles.specs.Handles.{is_open, least_free, opened, closed}
 use Rattle.file_handles.specs.Nodes.{root, file_at}
-use Rattle.file_view.specs.declared.scene.Scene.{Scene}
+use Rattle.file_view.specs.declared.view.Scene.{Scene}
 use Rattle.file_view.specs.Acting.{with_locks}
 use Rattle.file_view.specs.Errno.{ENOENT, EBADF, ENFILE}
 use Rattle.file_view.specs.Refusal.{Row}

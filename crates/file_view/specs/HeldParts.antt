@@ -14,8 +14,8 @@ use Rattle.lf_sqlite_pages.specs.Image.{DatabaseImage, SameImage}
 use Rattle.wal_watch.specs.File.{Wal, contents_of}
 use Rattle.file_view.specs.DatabaseState.{HeldWrite, DatabaseState}
 use Rattle.file_view.specs.LogRules.{LogCommits, LogKeeps, IsHeldFor}
-use Rattle.file_view.specs.declared.database.Held.{Held}
-use Rattle.file_view.specs.declared.database.Database.TheInside.{Inside}
+use Rattle.file_view.specs.declared.database.holding.Held.{Held}
+use Rattle.file_view.specs.declared.database.holding.Database.TheInside.{Inside}
 
 -- the pages without those that are kept for a write
 abbrev pub without_added : Pages → Option WaitingWrite → Pages

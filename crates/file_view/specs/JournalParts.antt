@@ -2,7 +2,7 @@
 use Rattle.std.specs.Prelude.{◌≡◌, ◌≤◌, Some, IsSome}
 use Rattle.file_view.specs.JournalState.{JournalState, HasRoom, reach}
 use Rattle.file_view.specs.declared.journal.JournalCall.{JournalCall}
-use Rattle.file_view.specs.declared.journal.Journal.TheInside.{Inside}
+use Rattle.file_view.specs.declared.journal.holding.Journal.TheInside.{Inside}
 
 -- the state that the parts stand for
 abbrev pub state_of : Inside → JournalState

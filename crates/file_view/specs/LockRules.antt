@@ -16,7 +16,7 @@ use Rattle.fuse_msgs.specs.declared.reply.Reply.{Reply}
 use Rattle.fuse_msgs.specs.declared.reply.Reply.TheVariants as reply
 use Rattle.fuse_msgs.specs.declared.request.LockWish.{LockWish}
 use Rattle.fuse_msgs.specs.declared.request.LockWish.TheVariants as wish
-use Rattle.file_view.specs.declared.scene.Scene.{Scene}
+use Rattle.file_view.specs.declared.view.Scene.{Scene}
 use Rattle.file_view.specs.Acting.{with_locks}
 use Rattle.file_view.specs.Errno.{EROFS, EAGAIN, ENOLCK}
 use Rattle.file_view.specs.HandleRules.{lock_handle_rows}

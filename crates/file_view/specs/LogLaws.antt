@@ -5,7 +5,7 @@ use Rattle.database_under_log.specs.Over.{Agrees}
 use Rattle.lf_sqlite_pages.specs.Apply.{apply}
 use Rattle.lf_sqlite_pages.specs.Change.{PageChange}
 use Rattle.lf_sqlite_pages.specs.Image.{DatabaseImage, SameImage}
-use Rattle.file_view.specs.declared.scene.Scene.{Scene}
+use Rattle.file_view.specs.declared.view.Scene.{Scene}
 use Rattle.file_view.specs.Endings.{committed}
 use Rattle.file_view.specs.LogRules.{FollowsImage, LogDone}
 use Rattle.file_view.specs.Served.{Served, log_contents}

@@ -11,7 +11,7 @@ use Rattle.journal_watch.specs.Journal.{is_active}
 use Rattle.wal_watch.specs.declared.fault.WalFault.TheVariants as wal
 use Rattle.file_view.specs.declared.fault.ViewFault.{ViewFault}
 use Rattle.file_view.specs.declared.fault.ViewFault.TheVariants as fault
-use Rattle.file_view.specs.declared.scene.Scene.{Scene}
+use Rattle.file_view.specs.declared.view.Scene.{Scene}
 use Rattle.file_view.specs.Acting.{writes}
 use Rattle.file_view.specs.Errno.{EPERM, EIO, EACCES, EINVAL, EFBIG, ENOSPC, EROFS}
 use Rattle.file_view.specs.FileFaults.{IsFault}

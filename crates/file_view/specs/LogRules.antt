@@ -16,7 +16,7 @@ use Rattle.lf_sqlite_pages.specs.Image.{DatabaseImage, SameImage}
 use Rattle.lf_sqlite_pages.specs.LockPage.{is_past_limit}
 use Rattle.wal_watch.specs.Frames.{is_header, page_size_in, committed_count, committed_end}
 use Rattle.wal_watch.specs.News.{first_new, last_size}
-use Rattle.file_view.specs.declared.scene.Scene.{Scene}
+use Rattle.file_view.specs.declared.view.Scene.{Scene}
 use Rattle.file_view.specs.Acting.{writes}
 use Rattle.file_view.specs.DatabaseState.{HeldWrite}
 use Rattle.file_view.specs.Errno.{EPERM, EIO, EAGAIN, EACCES, EINVAL, EFBIG, ENOSPC, EROFS}

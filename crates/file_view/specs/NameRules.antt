@@ -9,7 +9,7 @@ use Rattle.file_handles.specs.Nodes.{root}
 use Rattle.journal_watch.specs.Journal.{bytes_of}
 use Rattle.shm_index.specs.Shared.{with_bytes}
 use Rattle.shm_index.specs.Shared.{bytes_of as shared_bytes}
-use Rattle.file_view.specs.declared.scene.Scene.{Scene}
+use Rattle.file_view.specs.declared.view.Scene.{Scene}
 use Rattle.file_view.specs.Errno.{EPERM, ENOENT, EIO, EAGAIN, ENFILE, EROFS}
 use Rattle.file_view.specs.JournalRules.{journal_unlink_rows}
 use Rattle.file_view.specs.LogRules.{log_unlink_rows}

@@ -6,8 +6,8 @@ use Rattle.database_file.specs.DatabaseFile.{DatabaseFile, FitsShape, KeepsDiffe
 use Rattle.database_under_log.specs.Over.{Agrees}
 use Rattle.lf_sqlite_pages.specs.Apply.{apply}
 use Rattle.lf_sqlite_pages.specs.Image.{DatabaseImage}
-use Rattle.file_view.specs.declared.plan.Plan.{Plan}
-use Rattle.file_view.specs.declared.plan.Plan.TheVariants as plan
+use Rattle.file_view.specs.declared.requests.Plan.{Plan}
+use Rattle.file_view.specs.declared.requests.Plan.TheVariants as plan
 use Rattle.file_view.specs.Endings.{committed}
 use Rattle.file_view.specs.LogRules.{FollowsImage}
 use Rattle.file_view.specs.Served.{Served, log_contents}

@@ -10,7 +10,7 @@ use Rattle.file_handles.specs.Texts.{line, position_line, part}
 use Rattle.journal_watch.specs.Journal.{is_active, bytes_of}
 use Rattle.lf_sqlite_pages.specs.Image.{DatabaseImage, image_bytes}
 use Rattle.shm_index.specs.Shared.{bytes_of as shared_bytes}
-use Rattle.file_view.specs.declared.scene.Scene.{Scene}
+use Rattle.file_view.specs.declared.view.Scene.{Scene}
 use Rattle.file_view.specs.Roles.{is_replica}
 use Rattle.file_view.specs.Served.{Served, log_contents}
 

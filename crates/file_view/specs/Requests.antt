@@ -8,8 +8,8 @@ use Rattle.fuse_msgs.specs.declared.request.Op.{Op}
 use Rattle.fuse_msgs.specs.declared.request.Op.TheVariants as op
 use Rattle.fuse_msgs.specs.declared.request.Request.{Request}
 use Rattle.file_view.specs.declared.journal.JournalCall.TheVariants as call
-use Rattle.file_view.specs.declared.role.Role.{Role}
-use Rattle.file_view.specs.declared.scene.Scene.{Scene}
+use Rattle.file_view.specs.declared.view.Role.{Role}
+use Rattle.file_view.specs.declared.view.Scene.{Scene}
 use Rattle.file_view.specs.DatabaseRules.{database_write_rows, database_size_rows}
 use Rattle.file_view.specs.Errno.{EPERM}
 use Rattle.file_view.specs.HandleRules.{known_rows, served_rows, handle_rows, lock_handle_rows, closing_rows, open_rows}

@@ -1,7 +1,7 @@
 -- What a node is in its cluster.
 use Rattle.std.specs.Prelude.{Bool, true, false}
-use Rattle.file_view.specs.declared.role.Role.{Role}
-use Rattle.file_view.specs.declared.role.Role.TheVariants as role
+use Rattle.file_view.specs.declared.view.Role.{Role}
+use Rattle.file_view.specs.declared.view.Role.TheVariants as role
 
 abbrev pub is_primary : Role → Bool
 is_primary role.Primary = true

@@ -10,8 +10,8 @@ use Rattle.database_file.specs.DatabaseFile.{DatabaseFile, size_over, count_over
 use Rattle.file_handles.specs.Handles.{OpenHandles}
 use Rattle.shm_index.specs.Shared.{Shared}
 use Rattle.wal_watch.specs.Frames.{committed_count}
-use Rattle.file_view.specs.declared.role.Role.{Role}
-use Rattle.file_view.specs.declared.scene.Scene.{Scene}
+use Rattle.file_view.specs.declared.view.Role.{Role}
+use Rattle.file_view.specs.declared.view.Scene.{Scene}
 use Rattle.file_view.specs.DatabaseState.{HeldWrite}
 use Rattle.file_view.specs.JournalState.{JournalState}
 use Rattle.file_view.specs.Roles.{is_primary}

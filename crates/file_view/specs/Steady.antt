@@ -1,8 +1,8 @@
 -- What goes on as it was: the database at a replica while nobody writes, and what a request that waits will leave.
 use Rattle.std.specs.Prelude.{◌≡◌, true, false, None}
 use Rattle.database_file.specs.DatabaseFile.{clean}
-use Rattle.file_view.specs.declared.plan.Plan.{Plan}
-use Rattle.file_view.specs.declared.plan.Plan.TheVariants as plan
+use Rattle.file_view.specs.declared.requests.Plan.{Plan}
+use Rattle.file_view.specs.declared.requests.Plan.TheVariants as plan
 use Rattle.file_view.specs.Served.{Served, log_contents, has_committed_frames, waits}
 
 -- nobody writes: there are no uncommitted pages, and no request waits

@@ -1,261 +1,284 @@
-//! The database file, and a write to the log that waits for its commit: the file keeps pages for it
-//! until it is finished, forgotten or overtaken by another image. Meanwhile it reads as before.
-ghost use Rattle.std.specs.Prelude.{◌≡◌, ◌+◌, ◌≤◌, ◌<◌, is_some, None, Some, Ok, IsSome, IsTrue, IfSome, IfOk, IfErr, OnOk, OnErr, length};
-ghost use Rattle.std.specs.FinMap as pages;
-ghost use Rattle.std.specs.Option.{option_map};
-ghost use Rattle.lf_sqlite_pages.specs.Blocks.{IsWithin};
-ghost use Rattle.lf_sqlite_pages.specs.Image.{image_bytes};
-ghost use Rattle.database_file.specs.Commit.{IsChangeOf, LeadsTo, committed_image};
-ghost use Rattle.database_file.specs.DatabaseFile.{FitsShape, KeepsDifferences, KeepsNothing, as_read, bytes_from, clean, count_over, is_clean, new_file, size_over};
-ghost use Rattle.database_file.specs.Fault.{HasCause, SameBase};
-ghost use Rattle.database_file.specs.Writing.{AreDataPages, TakesPages, sized, with_pages};
-ghost use Rattle.wal_watch.specs.File.{contents_of, after_write};
-ghost use Rattle.file_view.specs.DatabaseState.{HeldWrite, overtaken};
+//! WRITE to the database file, and the rules of its pages.
+ghost use Rattle.std.specs.Prelude.{◌≡◌, ◌+◌, ◌/◌, ◌<◌, ◌^◌, Some, IfSome, IfOk, IfErr, OnOk, OnErr, length, ℕ};
+ghost use Rattle.database_file.specs.DatabaseFile.{FitsShape};
+ghost use Rattle.database_file.specs.Fault.{SameBase};
+ghost use Rattle.database_file.specs.Writing.{TakesPages, page_in};
+ghost use Rattle.file_view.specs.DatabaseRules.{write_size, are_pages, most_pages, kept_at_most, is_past_uncommitted, states_other, may_checkpoint, holds_frame, hold_frames};
+ghost use Rattle.file_view.specs.DatabaseRules.{uncommitted_rows, checkpoint_rows, sized_write_rows, database_write_rows, writer_after, IsDatabaseWritten};
+ghost use Rattle.file_view.specs.DatabaseParts.{MayWrite};
+ghost use Rattle.file_view.specs.Needs as needs;
+ghost use Rattle.file_view.specs.Refusal.{first_refusal, IsAllowed, HasCause, HasReadCause};
+ghost use Rattle.wal_watch.specs.File.{contents_of};
+ghost use Rattle.lf_sqlite_pages.specs.PageSize.{IsPageSize};
 
-use database_file::{DatabaseFile, FileFault};
-use database_under_log::{WaitingWrite, finish_log_write, forget_log_write, read_before};
-use lf_sqlite_pages::{Change, PageStore};
+pub mod holding;
+mod resizing;
+
+use crate::asked::Write;
+use crate::errno::{EACCES, EAGAIN, EFBIG, EINVAL, EIO, ENOSPC, EPERM, EROFS};
+use crate::fault::ViewFault;
+use crate::view::{Scene, View, writes};
+use byte_locks::{LockId, Owner};
+use database_under_log::holds_page;
+use holding::Database;
+use lf_base::Errno;
+use lf_sqlite_pages::{PageStore, lock_page, page_size_of, sound_store};
 use std::alloc::Global;
-use std::marker::Model;
 use wal_watch::WalFile;
 
-/// A write to the log that waits for its commit, of so many bytes at a place.
-#[derive(Drop)]
-pub(crate) struct Held {
-    pub(crate) at: u64,
-    pub(crate) len: u64,
-    /// How many pages the file kept before, and whether it was the committed image.
-    pub(crate) kept: usize,
-    pub(crate) clean: bool,
-    /// None once another image has come over it.
-    pub(crate) write: Option<WaitingWrite>,
+/// How many bytes of pages may be uncommitted.
+const UNCOMMITTED_LIMIT: u64 = 268_435_456;
+
+/// The bytes of the largest LTX file, without those that stand beside all pages.
+const LARGEST_FILE: u64 = 2_147_483_528;
+
+/// Whether a write is of whole pages at a whole page, none of them the lock page.
+fn are_pages(size: u32, at: u64, len: u64) -> bool
+    requires { 0 < size }
+    ensures { result ≡ are_pages size at len }
+{
+    let lock = u64::from(lock_page(size));
+    let size = u64::from(size);
+    let before = at / size;
+    let count = len / size;
+    let holds_data = lock <= before || count < lock - before;
+    count > 0 && at % size == 0 && len % size == 0 && holds_data
 }
 
-/// The database file with a write to the log in store.
-#[derive(Drop)]
-pub(crate) struct Database {
-    pub(crate) file: DatabaseFile,
-    pub(crate) held: Option<Held>,
+/// The most pages of a database.
+pub(crate) fn most_pages(size: u32) -> u64
+    ensures value { result ≡ most_pages size }
+    ensures small { result < 2 ^ 31 }
+{
+    LARGEST_FILE / (u64::from(size) + 4)
 }
 
-impl Model for Database {
-    ghost use Rattle.std.specs.Coded.{codes};
-    ghost use Rattle.database_file.specs.DatabaseFile.{database_code};
-    ghost use Rattle.file_view.specs.DatabaseState.{DatabaseState};
-
-    ghost Value = { DatabaseState };
-
-    ghost coded = { Prim.hlevel (codes, database_code) };
-
-    ghost use Rattle.file_view.specs.HeldParts.{state_of, IsKept};
-
-    ghost view = { state_of };
-
-    ghost invariant = { IsKept };
+/// Pages that are to be uncommitted: of a size, so many more behind the first ones, and whether page 1
+/// among them states another size.
+#[derive(Clone, Copy, Debug)]
+pub(crate) struct Uncommitted {
+    pub(crate) size: u32,
+    pub(crate) before: u32,
+    pub(crate) more: u32,
+    pub(crate) states_other: bool,
 }
 
-impl Database {
-    /// A file that keeps nothing, and no write.
-    pub(crate) fn new(alloc: Global) -> Database
-        ensures value { result ≡ record { file = new_file; held = None } }
-        ensures fits { KeepsNothing result.file }
+/// Whether more pages may be kept than may be uncommitted, once these were written.
+fn is_full(file: &Database, commit: u32, pages: Uncommitted) -> bool
+    requires { 0 < pages.size }
+    ensures { result ≡ is_past_uncommitted pages.size (kept_at_most file.now.file commit pages.before pages.more) }
+{
+    let back = pages
+        .before
+        .min(commit)
+        .saturating_sub(file.count_over(commit));
+    let kept = (file.kept_pages() as u64).saturating_add(u64::from(back) + u64::from(pages.more));
+    UNCOMMITTED_LIMIT / u64::from(pages.size) < kept
+}
+
+/// Whether a write of page 1 states another page size.
+fn states_other(size: u32, at: u64, bytes: &[u8]) -> bool
+    ensures { result ≡ states_other size at bytes.now }
+{
+    if at != 0 {
+        return false;
+    }
+    match page_size_of(bytes) {
+        Some(stated) => stated != size,
+        None => false,
+    }
+}
+
+/// Whether a committed frame of page `n` holds page `at` of some bytes, as the rules test it.
+fn holds_frame(log: &WalFile, size: usize, n: u32, bytes: &[u8], at: usize) -> bool
+    requires some { 0 < size }
+    requires within { at < length bytes.now / size }
+    ensures { result ≡ holds_frame (contents_of log.now) n (page_in bytes.now size at) }
+{
+    holds_page(log, size, n, bytes, at)
+}
+
+/// Whether committed frames hold each page of some bytes, from page `first` on.
+fn hold_frames(log: &WalFile, size: u32, first: u32, bytes: &[u8]) -> bool
+    requires some { 0 < size }
+    requires numbered { first + length bytes.now / size < 2 ^ 32 }
+    ensures { result ≡ hold_frames (contents_of log.now) size first bytes.now }
+{
+    let size = size as usize;
+    let count = bytes.len() / size;
+    for at in 0..count {
+        if !holds_frame(log, size, first + at as u32, bytes, at) {
+            return false;
+        }
+    }
+    true
+}
+
+impl View {
+    /// The page size of a write.
+    pub(crate) fn write_size(&self, scene: &Scene, at: u64, bytes: &[u8]) -> Option<u32>
+        requires fits { FitsShape self.now.database scene.now.page_size scene.now.commit }
+        requires sized { 0 < scene.now.commit → IsPageSize scene.now.page_size }
+        ensures value { result ≡ write_size self.now scene.now at bytes.now }
+        ensures takes { IfSome result (TakesPages self.now.database scene.now.page_size scene.now.commit) }
     {
-        Database {
-            file: DatabaseFile::new(alloc),
-            held: None,
+        if scene.commit != 0 {
+            return Some(scene.page_size);
+        }
+        if self.database.count_over(0) != 0 {
+            return Some(self.database.size_over(0, 0));
+        }
+        match self.journal.page_size() {
+            Some(size) => Some(size),
+            None if at == 0 => page_size_of(bytes),
+            None => None,
         }
     }
 
-    /// Whether the file is the committed image.
-    pub(crate) fn is_clean(&self) -> bool
-        ensures { result ≡ is_clean self.now.file }
+    /// Whether the acting owner may checkpoint.
+    pub(crate) fn may_checkpoint(&self, scene: &Scene, given: Option<u64>) -> bool
+        ensures { result ≡ may_checkpoint self.now scene.now given }
     {
-        match &self.held {
-            Some(held) => held.clean,
-            None => self.file.is_clean(),
-        }
+        writes(&self.locks, scene.session, given, LockId::Shared)
+            || writes(&self.locks, scene.session, given, LockId::Ckpt)
     }
 
-    /// How many pages the file keeps.
-    pub(crate) fn kept_pages(&self) -> usize
-        ensures { result ≡ pages.len self.now.file.kept }
-    {
-        match &self.held {
-            Some(held) => held.kept,
-            None => self.file.kept_pages(),
-        }
-    }
-
-    /// The size of the file's pages over a committed image.
-    pub(crate) fn size_over(&self, page_size: u32, commit: u32) -> u32
-        ensures { result ≡ size_over self.now.file page_size commit }
-    {
-        self.file.size_over(page_size, commit)
-    }
-
-    /// The file's number of pages over a committed image.
-    pub(crate) fn count_over(&self, commit: u32) -> u32
-        ensures { result ≡ count_over self.now.file commit }
-    {
-        self.file.count_over(commit)
-    }
-
-    /// Whether a write to the log waits.
-    pub(crate) fn waits(&self) -> bool
-        ensures { result ≡ is_some self.now.held }
-    {
-        self.held.is_some()
-    }
-
-    /// Reads as many bytes of the file from `at` on as there are, at most `size`.
-    pub(crate) fn read<S: PageStore>(
+    /// The rule that refuses uncommitted pages, if one does.
+    pub(crate) fn uncommitted_refusal(
         &self,
-        alloc: Global,
-        base: &mut S,
-        at: u64,
-        size: u32,
-    ) -> Result<Vec<u8>, FileFault>
-        requires fits { FitsShape self.now.file (S.page_size base.old) (S.commit base.old) }
-        ensures bytes { IfOk result (λ bytes. IfSome (S.image base.old) (λ i. bytes.items ≡ bytes_from (image_bytes (as_read self.now.file i)) at size)) }
-        ensures faults { OnOk result (S.faults base.new ≡ S.faults base.old) }
-        ensures cause { IfErr result (HasCause (S.faults base.old) (S.faults base.new)) }
-        ensures base { SameBase S.PageStore base.old base.new }
+        scene: &Scene,
+        given: Option<u64>,
+        pages: Uncommitted,
+    ) -> Option<Errno>
+        requires { 0 < pages.size }
+        ensures { result ≡ first_refusal (uncommitted_rows self.now scene.now given pages.size (kept_at_most self.now.database scene.now.commit pages.before pages.more) pages.states_other) }
     {
-        match &self.held {
-            None => self.file.read(alloc, base, at, size),
-            Some(held) => match &held.write {
-                None => self.file.read(alloc, base, at, size),
-                Some(write) => read_before(alloc, &self.file, write, base, at, size),
-            },
+        if self.has_committed_frames() && !self.database.is_clean() {
+            return Some(EPERM);
+        }
+        if !writes(&self.locks, scene.session, given, LockId::Shared) {
+            return Some(EACCES);
+        }
+        if self.torn.is_some() {
+            return Some(EIO);
+        }
+        if is_full(&self.database, scene.commit, pages) {
+            return Some(ENOSPC);
+        }
+        if pages.states_other {
+            return Some(EPERM);
+        }
+        if self.waits() {
+            return Some(EAGAIN);
+        }
+        None
+    }
+
+    /// The rule that refuses a checkpoint of some pages, if one does.
+    fn checkpoint_refusal(&self, scene: &Scene, size: u32, write: &Write<'_>) -> Option<Errno>
+        requires some { 0 < size }
+        requires numbered { write.now.at / size + length write.now.bytes.now / size < 2 ^ 31 }
+        ensures { result ≡ first_refusal (checkpoint_rows self.now scene.now write.now.given size write.now.at write.now.bytes.now) }
+    {
+        if !self.may_checkpoint(scene, write.given) {
+            return Some(EACCES);
+        }
+        let first = (write.at / u64::from(size)) as u32 + 1;
+        if !hold_frames(&self.log, size, first, write.bytes) {
+            return Some(EPERM);
+        }
+        if self.waits() {
+            return Some(EAGAIN);
+        }
+        None
+    }
+
+    /// The rule that refuses a write of a page size at whole pages, if one does.
+    fn pages_refusal(&self, scene: &Scene, size: u32, write: &Write<'_>) -> Option<Errno>
+        requires some { 0 < size }
+        ensures { result ≡ first_refusal (sized_write_rows self.now scene.now write.now.given write.now.at write.now.bytes.now (Some size)) }
+    {
+        let before = write.at / u64::from(size);
+        let count = write.bytes.len() as u64 / u64::from(size);
+        if !are_pages(size, write.at, write.bytes.len() as u64) {
+            return Some(EINVAL);
+        }
+        let most = most_pages(size);
+        if most < before || most - before < count {
+            return Some(EFBIG);
+        }
+        if self.journal.is_active() {
+            let pages = Uncommitted {
+                size,
+                before: before as u32,
+                more: count as u32,
+                states_other: states_other(size, write.at, write.bytes),
+            };
+            self.uncommitted_refusal(scene, write.given, pages)
+        } else {
+            self.checkpoint_refusal(scene, size, write)
         }
     }
 
-    /// Makes the file the committed image.
-    pub(crate) fn clear(&mut self)
-        requires { self.old.held ≡ None }
-        ensures value { self.new ≡ record { file = clean self.old.file; held = None } }
-        ensures fits { KeepsNothing self.new.file }
+    /// The page size of a write that no rule refuses.
+    fn write_allowed(&self, scene: &Scene, write: &Write<'_>) -> Result<u32, ViewFault>
+        requires fits { FitsShape self.now.database scene.now.page_size scene.now.commit }
+        requires sized { 0 < scene.now.commit → IsPageSize scene.now.page_size }
+        ensures size { IfOk result (λ size. write_size self.now scene.now write.now.at write.now.bytes.now ≡ Some size) }
+        ensures may { IfOk result (MayWrite self.now scene.now write.now.at write.now.bytes.now) }
+        ensures allowed { OnOk result (IsAllowed (database_write_rows self.now scene.now write.now.given write.now.at write.now.bytes.now)) }
+        ensures cause { IfErr result (HasCause needs.Nothing (database_write_rows self.now scene.now write.now.given write.now.at write.now.bytes.now)) }
     {
-        self.file.clear();
+        if scene.is_broken {
+            return Err(ViewFault::Errno(EIO));
+        }
+        if scene.role.is_replica() {
+            return Err(ViewFault::Errno(EROFS));
+        }
+        let Some(size) = self.write_size(scene, write.at, write.bytes) else {
+            return Err(ViewFault::Errno(EINVAL));
+        };
+        match self.pages_refusal(scene, size, write) {
+            Some(errno) => Err(ViewFault::Errno(errno)),
+            None => Ok(size),
+        }
     }
 
-    /// Writes whole data pages from page `first` on.
-    pub(crate) fn write_pages<S: PageStore>(
+    /// Who has uncommitted pages once the database file was changed.
+    pub(crate) fn writer_after(&self) -> Option<Owner>
+        ensures { result ≡ writer_after self.now }
+    {
+        if self.journal.is_active() {
+            self.locks.writer(LockId::Shared)
+        } else {
+            self.writer
+        }
+    }
+
+    /// WRITE to the database file.
+    #[tactic(auto, using(crate::proofs::FaultLemmas::read_cause, crate::proofs::FaultLemmas::row_cause))]
+    pub(crate) fn write_database<S: PageStore>(
         &mut self,
         alloc: Global,
+        scene: &Scene,
         base: &mut S,
-        page_size: u32,
-        first: u32,
-        bytes: &[u8],
-    ) -> Result<(), FileFault>
-        requires free { self.old.held ≡ None }
-        requires fits { FitsShape self.old.file (S.page_size base.old) (S.commit base.old) }
-        requires size { TakesPages self.old.file (S.page_size base.old) (S.commit base.old) page_size }
-        requires pages { AreDataPages page_size first bytes.now }
-        ensures held { self.new.held ≡ None }
-        ensures written { OnOk result (IfSome (S.image base.old) (λ i. as_read self.new.file i ≡ with_pages (as_read self.old.file i) page_size first bytes.now)) }
-        ensures differs { OnOk result (IfSome (S.image base.old) (λ i. KeepsDifferences self.old.file i → KeepsDifferences self.new.file i)) }
-        ensures fits { OnOk result (FitsShape self.new.file (S.page_size base.old) (S.commit base.old)) }
+        write: &Write<'_>,
+    ) -> Result<(), ViewFault>
+        requires over { (scene.now.page_size ≡ S.page_size base.old) × (scene.now.commit ≡ S.commit base.old) }
+        requires fits { FitsShape self.old.database (S.page_size base.old) (S.commit base.old) }
+        ensures done { OnOk result ((size : ℕ) → write_size self.old scene.now write.now.at write.now.bytes.now ≡ Some size → IsDatabaseWritten (S.image base.old) self.old scene.now size write.now.at write.now.bytes.now self.new) }
+        ensures allowed { OnOk result (IsAllowed (database_write_rows self.old scene.now write.now.given write.now.at write.now.bytes.now)) }
+        ensures cause { IfErr result (HasReadCause needs.Pages (database_write_rows self.old scene.now write.now.given write.now.at write.now.bytes.now) (S.faults base.old) (S.faults base.new)) }
         ensures err { OnErr result (self.new ≡ self.old) }
-        ensures faults { OnOk result (S.faults base.new ≡ S.faults base.old) }
-        ensures cause { IfErr result (HasCause (S.faults base.old) (S.faults base.new)) }
         ensures base { SameBase S.PageStore base.old base.new }
     {
-        self.file.write_pages(alloc, base, page_size, first, bytes)
-    }
-
-    /// Cuts the file to so many pages, or grows it to them with zeros.
-    pub(crate) fn resize<S: PageStore>(
-        &mut self,
-        alloc: Global,
-        base: &mut S,
-        page_size: u32,
-        pages: u32,
-    ) -> Result<(), FileFault>
-        requires free { self.old.held ≡ None }
-        requires fits { FitsShape self.old.file (S.page_size base.old) (S.commit base.old) }
-        requires size { TakesPages self.old.file (S.page_size base.old) (S.commit base.old) page_size }
-        ensures held { self.new.held ≡ None }
-        ensures sized { OnOk result (IfSome (S.image base.old) (λ i. as_read self.new.file i ≡ sized (as_read self.old.file i) page_size pages)) }
-        ensures differs { OnOk result (IfSome (S.image base.old) (λ i. KeepsDifferences self.old.file i → KeepsDifferences self.new.file i)) }
-        ensures fits { OnOk result (FitsShape self.new.file (S.page_size base.old) (S.commit base.old)) }
-        ensures err { OnErr result (self.new ≡ self.old) }
-        ensures faults { OnOk result (S.faults base.new ≡ S.faults base.old) }
-        ensures cause { IfErr result (HasCause (S.faults base.old) (S.faults base.new)) }
-        ensures base { SameBase S.PageStore base.old base.new }
-    {
-        self.file.resize(alloc, base, page_size, pages)
-    }
-
-    /// The change that leads from the committed image to the file, cut to its header's size.
-    pub(crate) fn commit_change<S: PageStore>(
-        &self,
-        alloc: Global,
-        base: &mut S,
-    ) -> Result<Option<Change>, FileFault>
-        requires free { self.now.held ≡ None }
-        requires fits { FitsShape self.now.file (S.page_size base.old) (S.commit base.old) }
-        ensures told { IfOk result (λ change. IfSome (S.image base.old) (λ i. KeepsDifferences self.now.file i → LeadsTo i (committed_image self.now.file i) change)) }
-        ensures value { IfOk result (λ change. IfSome change (IsChangeOf self.now.file (S.page_size base.old) (S.commit base.old))) }
-        ensures clean { IsTrue (is_clean self.now.file) → result ≡ Ok None }
-        ensures faults { OnOk result (S.faults base.new ≡ S.faults base.old) }
-        ensures cause { IfErr result (HasCause (S.faults base.old) (S.faults base.new)) }
-        ensures base { SameBase S.PageStore base.old base.new }
-    {
-        self.file.commit_change(alloc, base)
-    }
-
-    /// Forgets the write that waits, if one does.
-    pub(crate) fn forget(&mut self)
-        ensures { self.new ≡ record { file = self.old.file; held = None } }
-    {
-        if let Some(held) = self.held.take() {
-            if let Some(write) = held.write {
-                forget_log_write(&mut self.file, write);
-            }
-        }
-    }
-
-    /// Makes the file the committed image, which is another now, and leaves nothing to write of a write
-    /// that waits.
-    pub(crate) fn overtake(&mut self)
-        ensures value { self.new ≡ record { file = clean self.old.file; held = option_map (overtaken self.old.file) self.old.held } }
-        ensures fits { KeepsNothing self.new.file }
-    {
-        self.file.clear();
-        if let Some(held) = self.held.take() {
-            self.held = Some(Held {
-                at: held.at,
-                len: 0,
-                kept: 0,
-                clean: true,
-                write: None,
-            });
-        }
-    }
-
-    /// Does the write that waits: it is in the log, and the file is as it is to be then.
-    pub(crate) fn finish(&mut self, log: &mut WalFile)
-        requires some { IsSome self.old.held }
-        requires there { IsSome log.old.contents }
-        requires room { (w : HeldWrite) → self.old.held ≡ Some w → IsWithin log.old.room w.at (length w.bytes) }
-        ensures file { (w : HeldWrite) → self.old.held ≡ Some w → self.new ≡ record { file = w.file; held = None } }
-        ensures contents { (w : HeldWrite) → self.old.held ≡ Some w → contents_of log.new ≡ contents_of (after_write log.old w.at w.bytes) }
-        ensures there { IsSome log.new.contents }
-    {
-        if let Some(held) = self.held.take() {
-            match held.write {
-                Some(write) => finish_log_write(&mut self.file, log, write),
-                None => self.file.clear(),
-            }
-        }
-    }
-
-    /// The range that the write which waits is to write, if one waits: its place and its length.
-    pub(crate) fn held_range(&self) -> Option<(u64, u64)>
-        ensures { result ≡ option_map (λ w. (w.at, length w.bytes)) self.now.held }
-    {
-        let held = self.held.as_ref()?;
-        Some((held.at, held.len))
+        sound_store(base);
+        let size = self.write_allowed(scene, write)?;
+        let first = (write.at / u64::from(size)) as u32 + 1;
+        let writer = self.writer_after();
+        self.database
+            .write_pages(alloc, base, size, first, write.bytes)?;
+        self.writer = writer;
+        Ok(())
     }
 }

@@ -1,17 +1,26 @@
-//! The journal with a call in store: room is reserved for a call that waits for its commit.
-ghost use Rattle.std.specs.Prelude.{◌≡◌, ◌≤◌, ◌<◌, ◌^◌, is_some, nat_lt, [], None, Some, IsSome, IfSome, OnOk, OnErr, length, true};
-ghost use Rattle.std.specs.Option.{option_map};
-ghost use Rattle.lf_base.specs.FileBytes.{Reads};
-ghost use Rattle.journal_watch.specs.Journal.{is_active, bytes_of};
-ghost use Rattle.lf_base.specs.Endian.{be32_at};
-ghost use Rattle.lf_sqlite_pages.specs.PageSize.{IsPageSize};
-ghost use Rattle.file_view.specs.JournalState.{journal_page_size, after_call, after_waiting, reach, call_finishes, called, holding, HasRoom};
+//! WRITE, SETATTR of a size and UNLINK of the journal: the rules, the call, and the commit that it ends in.
+ghost use Rattle.std.specs.Prelude.{◌≡◌, ◌≤◌, None, IsSome, IfNone, IfOk, IfErr, OnOk, OnErr, nat_lt};
+ghost use Rattle.database_file.specs.DatabaseFile.{FitsShape};
+ghost use Rattle.database_file.specs.Fault.{SameBase, HasCause as HasFileCause};
+ghost use Rattle.file_view.specs.JournalState.{reach, call_finishes};
+ghost use Rattle.file_view.specs.JournalRules.{may_write_journal, ends_writing, finishing_rows, journal_rows, journal_unlink_rows, JournalCommits, JournalDone};
+ghost use Rattle.file_view.specs.Refusal.{first_refusal, IsAllowed, HasReadCause};
+ghost use Rattle.file_view.specs.declared.journal.JournalCall.TheVariants as call;
+ghost use Rattle.file_view.specs.Needs as needs;
 
-use journal_watch::{JOURNAL_LIMIT as LIMIT, JournalFile};
-use lf_base::{Bytes, NoMemory};
-use lf_sqlite_pages::is_page_size;
+pub mod holding;
+
+use crate::asked::Write;
+use crate::errno::{EACCES, EAGAIN, EIO, ENOSPC, EPERM, EROFS};
+use crate::fault::ViewFault;
+use crate::view::{Scene, View, writes};
+use byte_locks::{LockId, LockTable};
+use database_file::FileFault;
+use holding::Journal;
+use journal_watch::JOURNAL_LIMIT as LIMIT;
+use lf_base::{Bytes, Errno, NoMemory};
+use lf_sqlite_pages::{Change, PageStore};
 use std::alloc::Global;
-use std::marker::Model;
 
 /// What a request does to the journal.
 #[derive(Debug, Drop)]
@@ -42,120 +51,24 @@ impl JournalCall {
     }
 }
 
-/// The journal, and the call that waits for its commit.
-#[derive(Drop)]
-pub(crate) struct Journal {
-    file: JournalFile,
-    waiting: Option<JournalCall>,
-}
-
-impl Model for Journal {
-    ghost use Rattle.lf_base.specs.Endian.{be32_at};
-    ghost use Rattle.lf_sqlite_pages.specs.PageSize.{IsPageSize};
-    ghost use Rattle.file_view.specs.JournalState.{journal_page_size, JournalState};
-
-    ghost Value = { JournalState };
-
-    ghost use Rattle.file_view.specs.JournalParts.{state_of, IsKept};
-
-    ghost view = { state_of };
-
-    ghost invariant = { IsKept };
-}
-
-/// Sees to it that a call takes no memory. After want of memory the file is as before.
-fn make_room(file: &mut JournalFile, call: &JournalCall) -> Result<(), NoMemory>
-    requires { reach call.now ≤ 268435456 }
-    ensures same { file.new.file ≡ file.old.file }
-    ensures room { OnOk result (HasRoom file.new call.now) }
-    ensures err { OnErr result (file.new ≡ file.old) }
+/// Whether the acting owner of a message may write the journal.
+fn may_write_journal(locks: &LockTable, session: u64, given: Option<u64>) -> bool
+    ensures { result ≡ may_write_journal locks.now session given }
 {
-    match call {
-        JournalCall::Unlink | JournalCall::Cut { .. } => Ok(()),
-        JournalCall::Write { at, bytes } => file
-            .reserve(*at, bytes.as_slice().len() as u64)
-            .map_err(|_| NoMemory),
-    }
+    writes(locks, session, given, LockId::Reserved)
+        || writes(locks, session, given, LockId::Pending)
+        || writes(locks, session, given, LockId::Shared)
 }
 
-/// Does a call for which there is room.
-fn perform(file: &mut JournalFile, call: &JournalCall)
-    requires there { IsSome file.old.file }
-    requires short { reach call.now ≤ 268435456 }
-    requires room { HasRoom file.old call.now }
-    ensures { file.new.file ≡ after_call file.old.file call.now }
+/// A copy of some bytes.
+fn copied(alloc: Global, bytes: &[u8]) -> Result<Bytes, NoMemory>
+    ensures { IfOk result (λ copy. copy ≡ bytes.now) }
 {
-    match call {
-        JournalCall::Unlink => file.remove(),
-        JournalCall::Cut { len } => file.cut_within(*len),
-        JournalCall::Write { at, bytes } => file.write_within(*at, bytes.as_slice()),
-    };
-}
-
-/// The number where a journal's header has its page size.
-fn stated_size(file: &JournalFile) -> u32
-    requires { is_active file.now.file ≡ true }
-    ensures { result ≡ be32_at 24 (bytes_of file.now.file) }
-{
-    let mut field = [0u8; 4];
-    // All four are there: the journal is active.
-    file.read(24, &mut field);
-    u32::from_be_bytes(field)
+    let copy = Vec::from_slice(alloc, bytes)?;
+    Ok(Bytes::of(copy))
 }
 
 impl Journal {
-    pub(crate) fn new(alloc: Global) -> Journal
-        ensures { result ≡ record { file = None; waiting = None } }
-    {
-        Journal {
-            file: JournalFile::new(alloc),
-            waiting: None,
-        }
-    }
-
-    /// Makes the file, without bytes, if it isn't there.
-    pub(crate) fn create(&mut self)
-        requires { self.old.waiting ≡ None }
-        ensures { self.new ≡ record { file = Some (bytes_of self.old.file); waiting = None } }
-    {
-        if self.file.len().is_none() {
-            self.file.create();
-        }
-    }
-
-    /// How many bytes the file has, if it is there.
-    pub(crate) fn len(&self) -> Option<u64>
-        ensures { result ≡ option_map length self.now.file }
-    {
-        self.file.len()
-    }
-
-    /// Reads as many bytes from `at` on as there are and `out` has room for, and answers how many.
-    pub(crate) fn read(&self, at: u64, out: &mut [u8]) -> usize
-        ensures { Reads (bytes_of self.now.file) at out.old out.new result }
-    {
-        self.file.read(at, out)
-    }
-
-    /// Whether it has a whole header.
-    pub(crate) fn is_active(&self) -> bool
-        ensures { result ≡ is_active self.now.file }
-    {
-        self.file.is_active()
-    }
-
-    /// The page size in the header of an active journal, if it is one.
-    pub(crate) fn page_size(&self) -> Option<u32>
-        ensures value { result ≡ journal_page_size self.now.file }
-        ensures sqlite { IfSome result IsPageSize }
-    {
-        if !self.is_active() {
-            return None;
-        }
-        let size = stated_size(&self.file);
-        if is_page_size(size) { Some(size) } else { None }
-    }
-
     /// Whether a call would finish the journal.
     pub(crate) fn would_finish(&self, call: &JournalCall) -> bool
         ensures { result ≡ call_finishes self.now.file call.now }
@@ -168,62 +81,213 @@ impl Journal {
             }
         }
     }
+}
 
-    /// Does a call. After want of memory nothing changed.
-    pub(crate) fn perform(&mut self, call: &JournalCall) -> Result<(), NoMemory>
-        requires there { IsSome self.old.file }
-        requires short { reach call.now ≤ 268435456 }
-        requires free { self.old.waiting ≡ None }
-        ensures ok { OnOk result (self.new ≡ called self.old call.now) }
-        ensures err { OnErr result (self.new ≡ self.old) }
+impl View {
+    /// Whether a call ends a transaction that has written pages.
+    fn ends_writing(&self, call: &JournalCall) -> bool
+        ensures { result ≡ ends_writing self.now call.now }
     {
-        make_room(&mut self.file, call)?;
-        perform(&mut self.file, call);
-        Ok(())
+        self.journal.would_finish(call) && self.writer.is_some()
     }
 
-    /// Keeps a call until its commit, which takes no memory. After want of memory nothing changed.
-    pub(crate) fn hold(&mut self, call: JournalCall) -> Result<(), NoMemory>
-        requires there { IsSome self.old.file }
+    /// The rule that refuses a call by which the journal may be finished, if one does.
+    fn finishing_refusal(
+        &self,
+        scene: &Scene,
+        given: Option<u64>,
+        call: &JournalCall,
+    ) -> Option<Errno>
+        ensures value { result ≡ first_refusal (finishing_rows self.now scene.now given call.now) }
+        ensures free { IfNone result (self.now.journal.waiting ≡ None) }
+        ensures unheld { IfNone result (self.now.held_write ≡ None) }
+    {
+        let ends_writing = self.ends_writing(call);
+        if self.journal.would_finish(call) && self.torn.is_some() {
+            return Some(EIO);
+        }
+        if ends_writing && !writes(&self.locks, scene.session, given, LockId::Shared) {
+            return Some(EACCES);
+        }
+        if ends_writing && self.has_committed_frames() && !self.database.is_clean() {
+            return Some(EPERM);
+        }
+        if self.waits() {
+            return Some(EAGAIN);
+        }
+        None
+    }
+
+    /// The rule that refuses a write to the journal or a change of its size, if one does.
+    pub(crate) fn journal_refusal(
+        &self,
+        scene: &Scene,
+        given: Option<u64>,
+        call: &JournalCall,
+    ) -> Option<Errno>
+        ensures value { result ≡ first_refusal (journal_rows self.now scene.now given call.now) }
+        ensures free { IfNone result (self.now.journal.waiting ≡ None) }
+        ensures unheld { IfNone result (self.now.held_write ≡ None) }
+        ensures short { IfNone result (reach call.now ≤ 268435456) }
+    {
+        if scene.is_broken {
+            return Some(EIO);
+        }
+        if scene.role.is_replica() {
+            return Some(EROFS);
+        }
+        if !may_write_journal(&self.locks, scene.session, given) {
+            return Some(EACCES);
+        }
+        if call.is_past_limit() {
+            return Some(ENOSPC);
+        }
+        self.finishing_refusal(scene, given, call)
+    }
+
+    /// The rule that refuses to remove the journal, if one does.
+    pub(crate) fn journal_unlink_refusal(&self, scene: &Scene) -> Option<Errno>
+        ensures value { result ≡ first_refusal (journal_unlink_rows self.now scene.now) }
+        ensures free { IfNone result (self.now.journal.waiting ≡ None) }
+        ensures unheld { IfNone result (self.now.held_write ≡ None) }
+    {
+        let active = self.journal.is_active();
+        if scene.is_broken {
+            return Some(EIO);
+        }
+        if active && scene.role.is_replica() {
+            return Some(EROFS);
+        }
+        if active && !may_write_journal(&self.locks, scene.session, None) {
+            return Some(EACCES);
+        }
+        self.finishing_refusal(scene, None, &JournalCall::Unlink)
+    }
+
+    /// The change that a call commits, if it commits one.
+    fn change_of<S: PageStore>(
+        &self,
+        alloc: Global,
+        scene: &Scene,
+        base: &mut S,
+        call: &JournalCall,
+    ) -> Result<Option<Change>, FileFault>
+        requires over { (scene.now.page_size ≡ S.page_size base.old) × (scene.now.commit ≡ S.commit base.old) }
+        requires fits { FitsShape self.now.database (S.page_size base.old) (S.commit base.old) }
+        requires unheld { self.now.held_write ≡ None }
+        ensures commits { IfOk result (JournalCommits (S.image base.old) self.now scene.now call.now) }
+        ensures cause { IfErr result (HasFileCause (S.faults base.old) (S.faults base.new)) }
+        ensures base { SameBase S.PageStore base.old base.new }
+    {
+        if !self.ends_writing(call) {
+            return Ok(None);
+        }
+        self.database.commit_change(alloc, base)
+    }
+
+    /// Does a call that no rule refuses, or says what it commits.
+    pub(crate) fn call_journal<S: PageStore>(
+        &mut self,
+        alloc: Global,
+        scene: &Scene,
+        base: &mut S,
+        call: JournalCall,
+    ) -> Result<Option<Change>, FileFault>
+        requires over { (scene.now.page_size ≡ S.page_size base.old) × (scene.now.commit ≡ S.commit base.old) }
+        requires fits { FitsShape self.old.database (S.page_size base.old) (S.commit base.old) }
+        requires there { IsSome self.old.journal.file }
         requires short { reach call ≤ 268435456 }
-        requires free { self.old.waiting ≡ None }
-        ensures ok { OnOk result (self.new ≡ holding self.old call) }
+        requires free { self.old.journal.waiting ≡ None }
+        requires unheld { self.old.held_write ≡ None }
+        ensures done { IfOk result (λ change. JournalDone (S.image base.old) self.old scene.now call change self.new) }
         ensures err { OnErr result (self.new ≡ self.old) }
+        ensures cause { IfErr result (HasFileCause (S.faults base.old) (S.faults base.new)) }
+        ensures base { SameBase S.PageStore base.old base.new }
     {
-        make_room(&mut self.file, &call)?;
-        self.waiting = Some(call);
-        Ok(())
-    }
-
-    /// Whether a call waits.
-    pub(crate) fn waits(&self) -> bool
-        ensures { result ≡ is_some self.now.waiting }
-    {
-        self.waiting.is_some()
-    }
-
-    /// Does the call that waits, if one does.
-    pub(crate) fn finish(&mut self)
-        ensures { self.new ≡ record { file = after_waiting self.old; waiting = None } }
-    {
-        if let Some(call) = self.waiting.take() {
-            perform(&mut self.file, &call);
+        match self.change_of(alloc, scene, base, &call)? {
+            Some(change) => {
+                self.journal.hold(call)?;
+                Ok(Some(change))
+            }
+            None => {
+                self.perform_call(&call)?;
+                Ok(None)
+            }
         }
     }
 
-    /// Gives the call that waits up.
-    pub(crate) fn forget(&mut self)
-        ensures { self.new ≡ record { file = self.old.file; waiting = None } }
+    /// A write to the journal, or a change of its size.
+    #[tactic(auto, using(crate::proofs::FaultLemmas::read_cause))]
+    pub(crate) fn change_journal<S: PageStore>(
+        &mut self,
+        alloc: Global,
+        scene: &Scene,
+        base: &mut S,
+        given: Option<u64>,
+        call: JournalCall,
+    ) -> Result<Option<Change>, ViewFault>
+        requires over { (scene.now.page_size ≡ S.page_size base.old) × (scene.now.commit ≡ S.commit base.old) }
+        requires fits { FitsShape self.old.database (S.page_size base.old) (S.commit base.old) }
+        requires there { IsSome self.old.journal.file }
+        ensures done { IfOk result (λ change. JournalDone (S.image base.old) self.old scene.now call change self.new) }
+        ensures allowed { OnOk result (IsAllowed (journal_rows self.old scene.now given call)) }
+        ensures cause { IfErr result (HasReadCause needs.Pages (journal_rows self.old scene.now given call) (S.faults base.old) (S.faults base.new)) }
+        ensures err { OnErr result (self.new ≡ self.old) }
+        ensures base { SameBase S.PageStore base.old base.new }
     {
-        self.waiting = None;
+        if let Some(errno) = self.journal_refusal(scene, given, &call) {
+            return Err(ViewFault::Errno(errno));
+        }
+        let change = self.call_journal(alloc, scene, base, call)?;
+        Ok(change)
     }
 
-    /// Cuts the file to no bytes, if it is there.
-    pub(crate) fn empty(&mut self)
-        ensures { self.new ≡ record { file = option_map (λ _. []) self.old.file; waiting = self.old.waiting } }
+    /// WRITE to the journal: the change that it commits, if it commits one.
+    pub(crate) fn write_journal<S: PageStore>(
+        &mut self,
+        alloc: Global,
+        scene: &Scene,
+        base: &mut S,
+        write: &Write<'_>,
+    ) -> Result<Option<Change>, ViewFault>
+        requires over { (scene.now.page_size ≡ S.page_size base.old) × (scene.now.commit ≡ S.commit base.old) }
+        requires fits { FitsShape self.old.database (S.page_size base.old) (S.commit base.old) }
+        requires there { IsSome self.old.journal.file }
+        ensures done { IfOk result (λ change. JournalDone (S.image base.old) self.old scene.now (call.Write write.now.at write.now.bytes.now) change self.new) }
+        ensures allowed { OnOk result (IsAllowed (journal_rows self.old scene.now write.now.given (call.Write write.now.at write.now.bytes.now))) }
+        ensures cause { IfErr result (HasReadCause needs.Pages (journal_rows self.old scene.now write.now.given (call.Write write.now.at write.now.bytes.now)) (S.faults base.old) (S.faults base.new)) }
+        ensures err { OnErr result (self.new ≡ self.old) }
+        ensures base { SameBase S.PageStore base.old base.new }
     {
-        if self.file.len().is_some() {
-            self.file.cut_within(0);
+        let bytes = copied(alloc, write.bytes)?;
+        let call = JournalCall::Write {
+            at: write.at,
+            bytes,
+        };
+        self.change_journal(alloc, scene, base, write.given, call)
+    }
+
+    /// UNLINK of the journal: the change that it commits, if it commits one.
+    #[tactic(auto, using(crate::proofs::FaultLemmas::read_cause))]
+    pub(crate) fn unlink_journal<S: PageStore>(
+        &mut self,
+        alloc: Global,
+        scene: &Scene,
+        base: &mut S,
+    ) -> Result<Option<Change>, ViewFault>
+        requires over { (scene.now.page_size ≡ S.page_size base.old) × (scene.now.commit ≡ S.commit base.old) }
+        requires fits { FitsShape self.old.database (S.page_size base.old) (S.commit base.old) }
+        requires there { IsSome self.old.journal.file }
+        ensures done { IfOk result (λ change. JournalDone (S.image base.old) self.old scene.now call.Unlink change self.new) }
+        ensures allowed { OnOk result (IsAllowed (journal_unlink_rows self.old scene.now)) }
+        ensures cause { IfErr result (HasReadCause needs.Pages (journal_unlink_rows self.old scene.now) (S.faults base.old) (S.faults base.new)) }
+        ensures err { OnErr result (self.new ≡ self.old) }
+        ensures base { SameBase S.PageStore base.old base.new }
+    {
+        if let Some(errno) = self.journal_unlink_refusal(scene) {
+            return Err(ViewFault::Errno(errno));
         }
+        let change = self.call_journal(alloc, scene, base, JournalCall::Unlink)?;
+        Ok(change)
     }
 }

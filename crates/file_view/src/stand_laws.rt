@@ -4,9 +4,9 @@ ghost use Rattle.std.specs.Prelude.{◌≡◌, ◌<◌, ℕ, true, Option, List}
 ghost use Rattle.lf_sqlite_pages.specs.Image.{DatabaseImage};
 ghost use Rattle.lf_sqlite_pages.specs.PageSize.{IsPageSize};
 ghost use Rattle.fuse_msgs.specs.declared.request.Request.{Request as Asked};
-ghost use Rattle.file_view.specs.declared.plan.Plan.{Plan as Planned};
-ghost use Rattle.file_view.specs.declared.role.Role.TheVariants as role;
-ghost use Rattle.file_view.specs.declared.scene.Scene.{Scene as Over};
+ghost use Rattle.file_view.specs.declared.requests.Plan.{Plan as Planned};
+ghost use Rattle.file_view.specs.declared.view.Role.TheVariants as role;
+ghost use Rattle.file_view.specs.declared.view.Scene.{Scene as Over};
 ghost use Rattle.file_view.specs.Done.{IsDone};
 ghost use Rattle.file_view.specs.Endings.{dropped, ended, committed, abandoned, applied};
 ghost use Rattle.file_view.specs.Overlay.{StandsOver};

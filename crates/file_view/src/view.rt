@@ -1,19 +1,90 @@
+//! The files of one database, what a request on them is answered over, and whether who asks holds a
+//! lock that a rule asks for.
 ghost use Rattle.std.specs.Prelude.{◌≡◌, IfOk, None, [], Some};
+ghost use Rattle.file_view.specs.Acting.{is_actor, writes};
+ghost use Rattle.file_view.specs.Requests.{owner_of};
+ghost use Rattle.file_view.specs.Roles.{is_primary, is_replica};
 ghost use Rattle.file_view.specs.Served.{exists, host_size, file_size, has_committed_frames, waits};
 ghost use Rattle.file_view.specs.Views.{new_view};
 ghost use Rattle.database_file.specs.DatabaseFile.{KeepsNothing};
 
-use crate::database::Database;
-use crate::journal::Journal;
-use crate::role::Role;
-use crate::scene::Scene;
-use byte_locks::{FileKind, LockTable, Owner};
+use crate::database::holding::Database;
+use crate::journal::holding::Journal;
+use byte_locks::{FileKind, LockId, LockTable, Owner};
 use file_handles::Handles;
 use lf_base::{Name, NoMemory, Pos, Text};
 use shm_index::SharedMemory;
 use std::alloc::Global;
 use std::marker::Model;
 use wal_watch::WalFile;
+
+/// What a node is in its cluster.
+#[derive(Clone, Copy, Debug, PartialEq, Eq)]
+pub enum Role {
+    /// It holds the lease, and its commits are the cluster's.
+    Primary,
+    /// It follows a primary.
+    Replica,
+    /// It follows a primary that has given it leave to make a commit.
+    Halted,
+}
+
+impl Role {
+    pub(crate) fn is_primary(self) -> bool
+        ensures { result ≡ is_primary self }
+    {
+        matches!(self, Role::Primary)
+    }
+
+    pub(crate) fn is_replica(self) -> bool
+        ensures { result ≡ is_replica self }
+    {
+        matches!(self, Role::Replica)
+    }
+}
+
+/// What a request is answered over, beside the served files: who asks, what the node is, and the
+/// shape of the committed image.
+#[derive(Clone, Copy, Debug)]
+pub struct Scene {
+    pub session: u64,
+    pub role: Role,
+    pub page_size: u32,
+    pub commit: u32,
+    pub is_broken: bool,
+}
+
+impl Scene {
+    /// The owner that a message of the session names.
+    pub(crate) fn owner(&self, id: u64) -> Owner
+        ensures { result ≡ owner_of self.now id }
+    {
+        Owner {
+            session: self.session,
+            id,
+        }
+    }
+}
+
+/// Whether an owner is the session's, and of this number where one is given.
+fn is_actor(session: u64, given: Option<u64>, owner: Owner) -> bool
+    ensures { result ≡ is_actor session given owner }
+{
+    match given {
+        None => owner.session == session,
+        Some(id) => owner.session == session && owner.id == id,
+    }
+}
+
+/// Whether the acting owner of a message holds a lock for writing.
+pub fn writes(locks: &LockTable, session: u64, given: Option<u64>, lock: LockId) -> bool
+    ensures { result ≡ writes locks.now session given lock }
+{
+    match locks.writer(lock) {
+        None => false,
+        Some(owner) => is_actor(session, given, owner),
+    }
+}
 
 /// The served files of one database: the database file as far as it differs from the committed image,
 /// the journal, the log, the shared memory, the locks and the handles.

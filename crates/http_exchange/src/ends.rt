@@ -6,7 +6,8 @@ ghost use Rattle.http_exchange.specs.Reading.{inside};
 use crate::told::Untold;
 use lf_base::SessionEnd;
 
-pub(crate) fn untold_by(end: SessionEnd) -> Untold
+/// Why nothing is told where a session ends so.
+pub fn untold_by(end: SessionEnd) -> Untold
     ensures { result ≡ untold_by end }
 {
     match end {
@@ -17,8 +18,8 @@ pub(crate) fn untold_by(end: SessionEnd) -> Untold
     }
 }
 
-/// How a body that ends with the input has ended.
-pub(crate) fn at_end(end: SessionEnd) -> Result<(), Untold>
+/// How bytes that end with the input have ended.
+pub fn at_end(end: SessionEnd) -> Result<(), Untold>
     ensures { result ≡ at_end end }
 {
     match end {

@@ -9,7 +9,7 @@ use link_session::{Piece, Turns};
 /// Reads the next bytes, and puts them behind those that are held. It is a turn.
 ///
 /// Closed where the input is at its end.
-pub(crate) fn read_more<L: Link>(
+pub fn read_more<L: Link>(
     link: &mut L,
     piece: &mut Piece,
     held: &mut Vec<u8>,

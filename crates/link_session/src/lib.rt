@@ -5,6 +5,7 @@
 //! machine.
 #![tactic(auto)]
 
+mod asking;
 mod feed;
 mod frame_feed;
 mod inbox;
@@ -17,6 +18,7 @@ mod stage;
 mod steps;
 mod unread;
 
+pub use asking::take_step;
 pub use feed::{Feed, FeedFault};
 pub use inbox::{Inbox, Piece};
 pub use laws::{rounds_follow, seats_are_in_runs};

@@ -12,8 +12,8 @@ use Rattle.ltx_codec.specs.Positions.{after, before}
 use Rattle.halt_forward.specs.declared.halt_fault.HaltFault.TheVariants.{HaltGone}
 use Rattle.halt_forward.specs.declared.halt_pass.HaltPass.{HaltPass}
 use Rattle.halt_forward.specs.Permits.{gone_unless, pass_out}
-use Rattle.file_view.specs.declared.role.Role.{Role}
-use Rattle.file_view.specs.declared.role.Role.TheVariants as role
+use Rattle.file_view.specs.declared.view.Role.{Role}
+use Rattle.file_view.specs.declared.view.Role.TheVariants as role
 use Rattle.file_view.specs.Errno.{EAGAIN, EPERM, EROFS}
 use Rattle.file_view.specs.Endings.{first_blocking}
 use Rattle.file_view.specs.Refusal.{IsAllowed, Row, first_refusal}

@@ -3,7 +3,7 @@ use Rattle.std.proofs.Common.{◌≡◌, ◌∙◌, ℕ, true, IsTrue, List, Opt
 use Rattle.std.specs.Prelude.{max, ◌++◌}
 use Rattle.lf_base.specs.declared.errno.Errno.{Errno}
 use Rattle.lf_disk.specs.History.{History, Since}
-use Rattle.file_view.specs.declared.role.Role.TheVariants as role
+use Rattle.file_view.specs.declared.view.Role.TheVariants as role
 use Rattle.file_view.specs.Overlay.{IsOverImage}
 use Rattle.lease_core.specs.Belief.{LeaseBelief, may_commit}
 use Rattle.txn_log.specs.Calls.{MayFind, StandsForOne}

@@ -9,8 +9,8 @@ use Rattle.lf_sqlite_pages.specs.Image.{DatabaseImage}
 use Rattle.lf_sqlite_pages.specs.PageSize.{IsPageSize, is_page_size}
 use Rattle.ltx_codec.specs.Positions.{after}
 use Rattle.ltx_codec.specs.declared.file.Ltx.{Ltx}
-use Rattle.file_view.specs.declared.role.Role.{Role}
-use Rattle.file_view.specs.declared.role.Role.TheVariants as role
+use Rattle.file_view.specs.declared.view.Role.{Role}
+use Rattle.file_view.specs.declared.view.Role.TheVariants as role
 use Rattle.file_view.specs.Endings.{applied, first_blocking}
 use Rattle.file_view.specs.Overlay.{FitsImage, IsOverImage}
 use Rattle.file_view.specs.Served.{Served}

@@ -13,8 +13,8 @@ use Rattle.ltx_codec.specs.FileIn.{file_in}
 use Rattle.ltx_codec.specs.declared.file.Ltx.{Ltx}
 use Rattle.halt_forward.specs.declared.halt_pass.HaltPass.{HaltPass}
 use Rattle.halt_forward.specs.Permits.{unless_ended}
-use Rattle.file_view.specs.declared.role.Role.{Role}
-use Rattle.file_view.specs.declared.role.Role.TheVariants as role
+use Rattle.file_view.specs.declared.view.Role.{Role}
+use Rattle.file_view.specs.declared.view.Role.TheVariants as role
 use Rattle.file_view.specs.Endings.{abandoned, committed}
 use Rattle.file_view.specs.Overlay.{IsOverImage, StandsOver}
 use Rattle.file_view.specs.Served.{Served, log_contents}

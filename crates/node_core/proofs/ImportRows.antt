@@ -20,7 +20,7 @@ use Rattle.ltx_codec.specs.Positions.{after}
 use Rattle.page_checksum.specs.Crc.{after_bit, after_byte, crc}
 use Rattle.page_checksum.specs.Sums.{page_sum_of}
 use Rattle.database_file.specs.Commit.{difference}
-use Rattle.file_view.specs.declared.role.Role.TheVariants as role
+use Rattle.file_view.specs.declared.view.Role.TheVariants as role
 use Rattle.file_view.specs.Endings.{first_blocking}
 use Rattle.file_view.specs.Served.{Served}
 use Rattle.snapshot.specs.Bytes.{AreDatabase, image_of_bytes}

@@ -8,7 +8,7 @@ use Rattle.lf_sqlite_pages.specs.Change.{FitsOver, PageChange}
 use Rattle.lf_sqlite_pages.specs.LockPage.{IsWithinLimit}
 use Rattle.lf_sqlite_pages.specs.PageSize.{IsPageSize}
 use Rattle.database_file.specs.Commit.{LeadsTo, difference}
-use Rattle.file_view.specs.declared.role.Role.TheVariants as role
+use Rattle.file_view.specs.declared.view.Role.TheVariants as role
 use Rattle.file_view.specs.Overlay.{IsOverImage}
 use Rattle.snapshot.specs.Bytes.{ImportsWith, count_in, image_of_bytes, size_in}
 use Rattle.snapshot.specs.Causes.{ReadsWith}

@@ -4,8 +4,8 @@ use Rattle.std.specs.Option.{option_map}
 use Rattle.lf_disk.specs.History.{History}
 use Rattle.lf_disk.proofs.Moments.{past_stays}
 use Rattle.lf_sqlite_pages.specs.Image.{DatabaseImage}
-use Rattle.file_view.specs.declared.role.Role.{Role}
-use Rattle.file_view.specs.declared.role.Role.TheVariants as role
+use Rattle.file_view.specs.declared.view.Role.{Role}
+use Rattle.file_view.specs.declared.view.Role.TheVariants as role
 use Rattle.file_view.specs.Endings.{dropped}
 use Rattle.file_view.specs.Overlay.{IsOverImage}
 use Rattle.file_view.specs.Served.{Served, log_contents}

@@ -32,9 +32,9 @@ use Rattle.wal_watch.specs.News.{first_new}
 use Rattle.wal_watch.proofs.ScanLemmas.{none_committed}
 use Rattle.file_view.specs.declared.journal.JournalCall.{JournalCall}
 use Rattle.file_view.specs.declared.journal.JournalCall.TheVariants as call
-use Rattle.file_view.specs.declared.plan.Plan.{Plan}
-use Rattle.file_view.specs.declared.plan.Plan.TheVariants as plan
-use Rattle.file_view.specs.declared.scene.Scene.{Scene}
+use Rattle.file_view.specs.declared.requests.Plan.{Plan}
+use Rattle.file_view.specs.declared.requests.Plan.TheVariants as plan
+use Rattle.file_view.specs.declared.view.Scene.{Scene}
 use Rattle.file_view.specs.DatabaseRules.{DatabaseSized, database_write_rows, resizes, sized_write_rows, write_size, writer_after}
 use Rattle.file_view.specs.Done.{IsDoneAt, IsReplied, IsSized, IsUnlinked, IsWritten, MayCommit, SizesDatabase, WritesDatabase}
 use Rattle.file_view.specs.Endings.{abandoned, committed}

@@ -6,7 +6,7 @@ use Rattle.lf_disk.specs.Folder.{Folder}
 use Rattle.lf_disk.specs.History.{History, KeepsPast}
 use Rattle.lf_disk.proofs.Moments.{past_joins}
 use Rattle.ltx_codec.specs.Format.{file_encoding, no_meaning}
-use Rattle.file_view.specs.declared.role.Role.TheVariants as role
+use Rattle.file_view.specs.declared.view.Role.TheVariants as role
 use Rattle.file_view.specs.Overlay.{IsOverImage}
 use Rattle.txn_log.specs.Giving.{IsEncodingAt}
 use Rattle.txn_log.specs.LastFile.{Doubts}

@@ -1,6 +1,6 @@
 -- Worked rows of write permits. A table gives permits out for 1,000 ms; permit 1 was given out at 200.
 use Rattle.std.proofs.Common.{◌≡◌, ℕ, None, Some, refl}
-use Rattle.file_view.specs.declared.role.Role.TheVariants as role
+use Rattle.file_view.specs.declared.view.Role.TheVariants as role
 use Rattle.file_view.specs.Errno.{EAGAIN, EROFS}
 use Rattle.halt_forward.specs.declared.halt_fault.HaltFault.TheVariants as fault
 use Rattle.halt_forward.specs.declared.halt_pass.HaltPass.{HaltPass}

@@ -13,7 +13,7 @@ use Rattle.lf_sqlite_pages.specs.PageSize.{IsPageSize}
 use Rattle.lf_sqlite_pages.proofs.Completing.{apply-complete}
 use Rattle.ltx_codec.specs.Positions.{after}
 use Rattle.ltx_codec.specs.declared.file.Ltx.{Ltx}
-use Rattle.file_view.specs.declared.role.Role.TheVariants as role
+use Rattle.file_view.specs.declared.view.Role.TheVariants as role
 use Rattle.file_view.specs.DatabaseState.{HeldWrite}
 use Rattle.file_view.specs.Endings.{abandoned, committed, ended}
 use Rattle.file_view.specs.Errno.{EIO}

@@ -7,8 +7,8 @@ use Rattle.lf_disk.specs.History.{History}
 use Rattle.lf_sqlite_pages.specs.Image.{DatabaseImage}
 use Rattle.database_file.specs.DatabaseFile.{clean}
 use Rattle.database_under_log.specs.Over.{Agrees}
-use Rattle.file_view.specs.declared.role.Role.{Role}
-use Rattle.file_view.specs.declared.role.Role.TheVariants as role
+use Rattle.file_view.specs.declared.view.Role.{Role}
+use Rattle.file_view.specs.declared.view.Role.TheVariants as role
 use Rattle.file_view.specs.Overlay.{IsOverImage}
 use Rattle.file_view.specs.Served.{Served, log_contents}
 use Rattle.world_laws.specs.Node as laws

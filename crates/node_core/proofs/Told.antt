@@ -1,7 +1,7 @@
 -- What a node says of itself, by which nothing is done.
 use Rattle.std.proofs.Common.{◌≡◌, [], None, refl}
 use Rattle.lf_disk.specs.History.{History}
-use Rattle.file_view.specs.declared.role.Role.TheVariants as role
+use Rattle.file_view.specs.declared.view.Role.TheVariants as role
 use Rattle.file_view.specs.Overlay.{IsOverImage}
 use Rattle.txn_log.specs.Calls.{RestsAs}
 use Rattle.world_laws.specs.Answers.{LeavesUndone}

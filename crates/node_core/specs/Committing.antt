@@ -10,7 +10,7 @@ use Rattle.fuse_msgs.specs.declared.request.Request.{Request}
 use Rattle.lf_disk.specs.History.{History}
 use Rattle.lf_sqlite_pages.specs.Change.{PageChange}
 use Rattle.ltx_codec.specs.declared.file.Ltx.{Ltx}
-use Rattle.file_view.specs.declared.plan.Plan.TheVariants as plan
+use Rattle.file_view.specs.declared.requests.Plan.TheVariants as plan
 use Rattle.file_view.specs.Endings.{committed}
 use Rattle.file_view.specs.Served.{Served}
 use Rattle.txn_log.specs.declared.fault.StoreFault.{StoreFault}

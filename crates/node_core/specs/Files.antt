@@ -6,8 +6,8 @@ use Rattle.lf_disk.specs.History.{History}
 use Rattle.lf_sqlite_pages.specs.Image.{DatabaseImage}
 use Rattle.file_view.specs.declared.fault.ViewFault.{ViewFault}
 use Rattle.file_view.specs.declared.fault.ViewFault.TheVariants as fault
-use Rattle.file_view.specs.declared.plan.Plan.{Plan}
-use Rattle.file_view.specs.declared.scene.Scene.{Scene}
+use Rattle.file_view.specs.declared.requests.Plan.{Plan}
+use Rattle.file_view.specs.declared.view.Scene.{Scene}
 use Rattle.file_view.specs.Done.{IsDone}
 use Rattle.file_view.specs.Needs.{Needs, ReadsPages, TakesMemory}
 use Rattle.file_view.specs.Refusal.{IsAllowed, Row, first_refusal}

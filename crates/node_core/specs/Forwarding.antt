@@ -9,7 +9,7 @@ use Rattle.ltx_codec.specs.Format.{IsLtx}
 use Rattle.ltx_codec.specs.Positions.{after, before}
 use Rattle.ltx_codec.specs.declared.fault.LtxFault.TheVariants.{Txid}
 use Rattle.ltx_codec.specs.declared.file.Ltx.{Ltx}
-use Rattle.file_view.specs.declared.role.Role.TheVariants as role
+use Rattle.file_view.specs.declared.view.Role.TheVariants as role
 use Rattle.file_view.specs.Endings.{applied, first_blocking}
 use Rattle.txn_log.specs.declared.fault.StoreFault.{StoreFault}
 use Rattle.txn_log.specs.declared.fault.StoreFault.TheVariants as fault

@@ -5,7 +5,7 @@ use Rattle.lf_base.specs.Faults.{Rose}
 use Rattle.lf_base.specs.declared.pos.Pos.{Pos}
 use Rattle.lf_disk.specs.History.{History, now}
 use Rattle.ltx_codec.specs.Format.{file_encoding, no_meaning}
-use Rattle.file_view.specs.declared.role.Role.TheVariants as role
+use Rattle.file_view.specs.declared.view.Role.TheVariants as role
 use Rattle.txn_log.specs.declared.answering.Answer.{Answer as OwedAnswer}
 use Rattle.txn_log.specs.declared.answering.Answer.TheVariants as owed
 use Rattle.txn_log.specs.declared.entry.Entry.{Entry}

@@ -6,7 +6,7 @@ use Rattle.halt_forward.specs.declared.halt_fault.HaltFault.TheVariants.{HaltHel
 use Rattle.halt_forward.specs.declared.halt_pass.HaltPass.{HaltPass}
 use Rattle.lf_sqlite_pages.specs.Change.{FitsOver, PageChange}
 use Rattle.database_file.specs.Commit.{LeadsTo}
-use Rattle.file_view.specs.declared.role.Role.TheVariants as role
+use Rattle.file_view.specs.declared.view.Role.TheVariants as role
 use Rattle.file_view.specs.Endings.{applied, first_blocking}
 use Rattle.snapshot.specs.Bytes.{AreDatabase, BytesFit, ImportsWith, image_of_bytes}
 use Rattle.snapshot.specs.declared.fault.ImportFault.{ImportFault}

@@ -9,8 +9,8 @@ use Rattle.fuse_msgs.specs.declared.request.Op.TheVariants as op
 use Rattle.fuse_msgs.specs.declared.request.Request.{Request}
 use Rattle.lf_base.specs.declared.errno.Errno.{Errno}
 use Rattle.halt_forward.specs.declared.halt_pass.HaltPass.{HaltPass}
-use Rattle.file_view.specs.declared.role.Role.{Role}
-use Rattle.file_view.specs.declared.role.Role.TheVariants as role
+use Rattle.file_view.specs.declared.view.Role.{Role}
+use Rattle.file_view.specs.declared.view.Role.TheVariants as role
 use Rattle.file_view.specs.Errno.{EAGAIN, EROFS}
 use Rattle.file_view.specs.LockRules.{locks_at}
 use Rattle.node_core.specs.declared.standing.Standing.{Standing}

@@ -12,7 +12,7 @@ use Rattle.lf_sqlite_pages.specs.Image.{DatabaseImage}
 use Rattle.database_file.specs.DatabaseFile.{DatabaseFile, as_read, count_over, size_of}
 use Rattle.wal_watch.specs.Frames.{committed_count}
 use Rattle.wal_watch.specs.News.{change_of}
-use Rattle.file_view.specs.declared.role.Role.{Role}
+use Rattle.file_view.specs.declared.view.Role.{Role}
 use Rattle.file_view.specs.Served.{Served, log_contents}
 use Rattle.txn_log.specs.declared.store.Store.{Store}
 use Rattle.world_laws.specs.Node.{NodeState}

@@ -4,8 +4,8 @@ use Rattle.std.specs.Prelude.{◌≡◌, ◌≢◌, ℕ, ◌==◌, List, [], ◌
 use Rattle.byte_locks.specs.declared.lock_id.LockId.{LockId}
 use Rattle.byte_locks.specs.declared.lock_id.LockId.TheVariants as lock
 use Rattle.byte_locks.specs.LockList.{is_held}
-use Rattle.file_view.specs.declared.role.Role.{Role}
-use Rattle.file_view.specs.declared.role.Role.TheVariants as role
+use Rattle.file_view.specs.declared.view.Role.{Role}
+use Rattle.file_view.specs.declared.view.Role.TheVariants as role
 use Rattle.file_view.specs.Served.{Served}
 use Rattle.halt_forward.specs.declared.halt_fault.HaltFault.{HaltFault}
 use Rattle.halt_forward.specs.declared.halt_fault.HaltFault.TheVariants as fault

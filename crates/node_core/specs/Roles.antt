@@ -1,8 +1,8 @@
 -- What a node is in its cluster, and what that does to its files. Of a node at one moment it is `role_in`, and nothing else asks what
 -- it believes of its lease.
 use Rattle.std.specs.Prelude.{Bool, true, false, Option, Some, None}
-use Rattle.file_view.specs.declared.role.Role.{Role}
-use Rattle.file_view.specs.declared.role.Role.TheVariants as role
+use Rattle.file_view.specs.declared.view.Role.{Role}
+use Rattle.file_view.specs.declared.view.Role.TheVariants as role
 use Rattle.file_view.specs.Endings.{dropped}
 use Rattle.file_view.specs.Served.{Served}
 use Rattle.halt_forward.specs.declared.halt_pass.HaltPass.{HaltPass}

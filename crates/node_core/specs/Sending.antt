@@ -9,7 +9,7 @@ use Rattle.ltx_codec.specs.declared.file.Ltx.{Ltx}
 use Rattle.fuse_msgs.specs.declared.reply.Reply.{Reply}
 use Rattle.fuse_msgs.specs.declared.request.Request.{Request}
 use Rattle.halt_forward.specs.declared.halt_pass.HaltPass.{HaltPass}
-use Rattle.file_view.specs.declared.plan.Plan.TheVariants as plan
+use Rattle.file_view.specs.declared.requests.Plan.TheVariants as plan
 use Rattle.file_view.specs.Served.{Served}
 use Rattle.txn_log.specs.declared.fault.StoreFault.{StoreFault}
 use Rattle.txn_log.specs.declared.fault.StoreFault.TheVariants as fault

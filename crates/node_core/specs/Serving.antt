@@ -5,8 +5,8 @@ use Rattle.lf_base.specs.declared.errno.Errno.{Errno}
 use Rattle.fuse_msgs.specs.declared.request.Request.{Request}
 use Rattle.lf_disk.specs.History.{History}
 use Rattle.file_view.specs.declared.fault.ViewFault.{ViewFault}
-use Rattle.file_view.specs.declared.plan.Plan.{Plan}
-use Rattle.file_view.specs.declared.plan.Plan.TheVariants as plan
+use Rattle.file_view.specs.declared.requests.Plan.{Plan}
+use Rattle.file_view.specs.declared.requests.Plan.TheVariants as plan
 use Rattle.file_view.specs.Needs.{needs_of}
 use Rattle.file_view.specs.Requests.{rows_of}
 use Rattle.node_core.specs.declared.answer.Answer.{Answer}

@@ -2,7 +2,7 @@
 ghost use Rattle.std.specs.Prelude.{◌≡◌, ◌≢◌, ℕ, IsTrue, MatchBool};
 ghost use Rattle.ltx_codec.specs.Format.{IsFile};
 ghost use Rattle.ltx_codec.specs.Positions.{before};
-ghost use Rattle.file_view.specs.declared.role.Role.TheVariants as role;
+ghost use Rattle.file_view.specs.declared.view.Role.TheVariants as role;
 ghost use Rattle.node_core.specs.Dropping.{IsFree};
 ghost use Rattle.node_core.specs.Forwarding.{Accepts, AcceptsBytes, AcceptsFile, AcceptsTransaction, AnswersForward, CommitsNext};
 ghost use Rattle.node_core.specs.Nodes.{history, parts_of, role_in, said_to, seen};

@@ -1,6 +1,6 @@
 //! An LTX file of another node.
 ghost use Rattle.std.specs.Prelude.{◌≡◌, ◌≢◌, ℕ, true, false, IsTrue};
-ghost use Rattle.file_view.specs.declared.role.Role.TheVariants as role;
+ghost use Rattle.file_view.specs.declared.view.Role.TheVariants as role;
 ghost use Rattle.ltx_codec.specs.Format.{IsFile};
 ghost use Rattle.txn_log.specs.Calls.{Went};
 ghost use Rattle.txn_log.specs.Causes.{Breaks};

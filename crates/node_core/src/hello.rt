@@ -1,6 +1,6 @@
 //! What is owed to a follower.
 ghost use Rattle.std.specs.Prelude.{◌≡◌, ◌<◌, ◌≤◌, ℕ, true, IsTrue};
-ghost use Rattle.file_view.specs.declared.role.Role.TheVariants as role;
+ghost use Rattle.file_view.specs.declared.view.Role.TheVariants as role;
 ghost use Rattle.lf_disk.specs.History.{now as folder};
 ghost use Rattle.node_core.specs.Hello.{AnswersHello, IsOwed};
 ghost use Rattle.node_core.specs.Nodes.{history, parts_of, role_in, said_to, seen};

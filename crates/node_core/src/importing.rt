@@ -1,6 +1,6 @@
 //! A database in the place of the primary's.
 ghost use Rattle.std.specs.Prelude.{◌≡◌, ℕ, IsTrue};
-ghost use Rattle.file_view.specs.declared.role.Role.TheVariants as role;
+ghost use Rattle.file_view.specs.declared.view.Role.TheVariants as role;
 ghost use Rattle.node_core.specs.Dropping.{IsFree};
 ghost use Rattle.node_core.specs.Importing.{AnswersChange, AnswersImport, TakesImport};
 ghost use Rattle.node_core.specs.Nodes.{history, parts_of, role_in, said_to, seen};

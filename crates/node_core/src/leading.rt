@@ -1,6 +1,6 @@
 //! What a node is at its moment, and what a moment ends.
 ghost use Rattle.std.specs.Prelude.{◌≡◌, ◌≢◌, true, false};
-ghost use Rattle.file_view.specs.declared.role.Role.TheVariants as role;
+ghost use Rattle.file_view.specs.declared.view.Role.TheVariants as role;
 ghost use Rattle.file_view.specs.Roles.{is_replica};
 ghost use Rattle.node_core.specs.Nodes.{at_moment, parts_of, role_in, stands};
 

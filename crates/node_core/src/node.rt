@@ -1,6 +1,6 @@
 ghost use Rattle.std.specs.Prelude.{◌≡◌, true, None, IsTrue, is_some};
 ghost use Rattle.std.proofs.Props.{props};
-ghost use Rattle.file_view.specs.declared.role.Role.TheVariants as role;
+ghost use Rattle.file_view.specs.declared.view.Role.TheVariants as role;
 ghost use Rattle.file_view.specs.Overlay.{FitsImage, IsOverImage};
 ghost use Rattle.file_view.specs.Served.{waits};
 ghost use Rattle.byte_locks.specs.LockList.{IsLockList};

@@ -2,8 +2,8 @@
 use Rattle.std.specs.Prelude.{◌≡◌, ◌≢◌, ℕ, List, [], ◌∷◌, ◌++◌, codes, Option, Some, None}
 use Rattle.lf_base.specs.Position.{position_text}
 use Rattle.lf_base.specs.declared.pos.Pos.{Pos}
-use Rattle.file_view.specs.declared.role.Role.{Role}
-use Rattle.file_view.specs.declared.role.Role.TheVariants as role
+use Rattle.file_view.specs.declared.view.Role.{Role}
+use Rattle.file_view.specs.declared.view.Role.TheVariants as role
 use Rattle.node_core.specs.declared.info.NodeInfo.{NodeInfo}
 use Rattle.node_settings.specs.declared.settings.Settings.{Settings}
 use Rattle.node_mount.specs.Lines.{shown}

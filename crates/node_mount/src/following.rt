@@ -11,13 +11,12 @@ use crate::means::Means;
 use crate::mount_fault::MountFault;
 use crate::notes::Notes;
 use crate::place::Place;
-use crate::sessions::{BUDGET, LINKS};
+use crate::sessions::LINKS;
 use crate::to_primary::ToPrimary;
 use crate::work::{Work, start_work};
 use lf_base::{
     Clock, Closing, Dialer, Failed, Handles, Job, Link, Name, NoMemory, Pause, Spawner, Text, start,
 };
-use link_session::{Session, Turns};
 use node_core::{Answer, Ask};
 use replica_apply::{Doubt, FollowEnd};
 use std::alloc::Global;
@@ -243,13 +242,7 @@ fn follow_lent<
     ensures { IsOf seat.new desk.now }
 {
     let rt = means.rt;
-    let mut session = Session {
-        alloc: means.alloc,
-        link: &mut heard.link,
-        clock: &mut means.clock,
-        pause: &mut heard.pause,
-        turns: Turns::new(BUDGET),
-    };
+    let mut session = means.session(&mut heard.link, &mut heard.pause);
     let mut at = HeardSeat {
         rt: &rt,
         desk,

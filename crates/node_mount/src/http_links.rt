@@ -13,13 +13,12 @@ use crate::node_gauge::{Meters, NodeGauge};
 use crate::notes::Notes;
 use crate::patience::watcher_naps;
 use crate::place::Place;
-use crate::sessions::{BUDGET, LINKS};
+use crate::sessions::LINKS;
 use crate::tally::Tally;
 use crate::work::{Work, start_work};
 use lf_base::{
     Acceptor, Clock, Closing, Handles, Job, Link, Name, NoMemory, Pause, Spawner, start,
 };
-use link_session::{Session, Turns};
 use node_core::{Answer, Ask};
 use std::alloc::Global;
 use std::cell::Cell;
@@ -266,13 +265,7 @@ fn serve_lent<
     ensures { IsOf seat.new desk.now }
 {
     let rt = means.rt;
-    let mut session = Session {
-        alloc: means.alloc,
-        link: &mut heard.link,
-        clock: &mut means.clock,
-        pause: &mut heard.pause,
-        turns: Turns::new(BUDGET),
-    };
+    let mut session = means.session(&mut heard.link, &mut heard.pause);
     let mut at = HeardSeat {
         rt: &rt,
         desk,

@@ -4,22 +4,19 @@ ghost use Rattle.node_core.specs.declared.answer.Answer.TheVariants as answers;
 ghost use Rattle.node_core.specs.declared.refusal.Refusal.TheVariants as refusals;
 ghost use Rattle.txn_log.specs.declared.fault.StoreFault.TheVariants as faults;
 ghost use Rattle.turn_desk.specs.Seats.{IsOf};
-ghost use Rattle.node_mount.specs.Places.{HasSeenNone};
-ghost use Rattle.node_mount.specs.Serving.{CountsStarts};
 
 use crate::board::Board;
 use crate::keeper::Keeper;
 use crate::lease_news::ToNode;
-use crate::means::Means;
-use crate::mount_fault::MountFault;
+use crate::means::{BUDGET, Means};
 use crate::place::Place;
 use crate::posting::{Posting, posted_by};
-use crate::sessions::{BUDGET, LINKS};
+use crate::sessions::LINKS;
 use crate::wish::term_after;
-use crate::work::{Work, start_work};
+use crate::work::Work;
 use lease_core::Grant;
 use lease_link::{KeepEnd, Round, give_up_lease, keep_lease};
-use lf_base::{Clock, Closing, Dialer, Handles, Link, Pause, Spawner};
+use lf_base::{Clock, Closing, Dialer, Handles, NoMemory, Pause};
 use link_session::{AtSeat, Turns};
 use node_core::{Answer, Ask, Refusal};
 use std::alloc::Global;
@@ -42,38 +39,18 @@ pub struct Rounds<T, C> {
     pub ended: Closing,
 }
 
-/// Starts the job of these rounds, at a seat of its own.
-pub fn start_rounds<
-    R: Handles + Copy + Send + 'static,
-    K: Machine<Ask = Ask, Answer = Answer> + Send + Drop + 'static,
-    L: Link + Send + Drop + 'static,
-    T: Dialer<L = L> + Send + Drop + 'static,
-    S: Spawner,
-    C: Clock + Copy + Send + 'static,
-    P: Pause + Copy + Send + 'static,
->(
-    means: Means<R, C, P>,
-    place: &mut Place<K>,
+/// The work of the job that makes these rounds.
+pub fn rounds_work<T: Drop, C: Drop>(
     rounds: Rounds<T, C>,
     closing: &Closing,
-    spawner: &mut S,
-) -> Result<(), MountFault>
-    requires unused { HasSeenNone place.old.seat }
-    ensures unused { HasSeenNone place.new.seat }
-    ensures cause { CountsStarts (S.faults spawner.old) (S.faults spawner.new) result }
-{
-    let (Some(place), Ok(closing)) = (place.another(means.rt), closing.another()) else {
-        return Err(MountFault::NoMemory);
-    };
-    match start_work(means, place, Going { rounds, closing }, spawner) {
-        Ok(()) => Ok(()),
-        Err(_) => Err(MountFault::NoThread),
-    }
+) -> Result<Going<T, C>, NoMemory> {
+    let closing = closing.another()?;
+    Ok(Going { rounds, closing })
 }
 
 /// The work of the job.
 #[derive(Drop)]
-struct Going<T, Q> {
+pub struct Going<T, Q> {
     rounds: Rounds<T, Q>,
     closing: Closing,
 }

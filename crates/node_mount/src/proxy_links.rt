@@ -5,10 +5,10 @@ ghost use Rattle.node_mount.specs.Serving.{CountsStarts};
 
 use crate::hall::Links;
 use crate::http_links::accepting_job;
-use crate::means::Means;
+use crate::means::{BUDGET, Means};
 use crate::mount_fault::MountFault;
 use crate::place::Place;
-use crate::sessions::{BUDGET, LINKS};
+use crate::sessions::LINKS;
 use crate::work::{Work, start_work};
 use lf_base::{
     Acceptor, Clock, Closing, Dialer, Handles, Link, NoMemory, Pause, Spawner, Text, start,

@@ -16,7 +16,7 @@ use crate::ending::{End, end_serving};
 use crate::file_links::serve_file_links;
 use crate::following::start_following;
 use crate::http_links::{Calling, Door, start_http};
-use crate::lease_rounds::start_rounds;
+use crate::lease_rounds::rounds_work;
 use crate::means::Means;
 use crate::mount_fault::MountFault;
 use crate::mounter::Mounter;
@@ -24,7 +24,8 @@ use crate::place::Place;
 use crate::proxy_links::start_proxy;
 use crate::tasks::Tasks;
 use crate::tell::Tell;
-use crate::watching::{Watching, start_watching};
+use crate::watching::{Watching, watching_work};
+use crate::work::start_job;
 use lf_base::{Acceptor, Clock, Closing, Dialer, Handles, Link, Pause, Spawner};
 use node_core::{Answer, Ask};
 use turn_desk::Machine;
@@ -174,7 +175,7 @@ fn start_tasks<
     ensures unused { HasSeenNone place.new.seat }
     ensures cause { CountsStarts (S.faults spawner.old) (S.faults spawner.new) result }
 {
-    match start_watching(means, place, watching, closing, spawner) {
+    match start_job(means, place, watching_work(watching, closing), spawner) {
         Ok(()) => start_duties(means, place, duties, closing, spawner),
         Err(fault) => Err(fault),
     }
@@ -205,7 +206,7 @@ fn start_duties<
     };
     let Duties { primary, rounds } = duties;
     match start_following(means, place, primary, closing, spawner) {
-        Ok(()) => start_rounds(means, place, rounds, closing, spawner),
+        Ok(()) => start_job(means, place, rounds_work(rounds, closing), spawner),
         Err(fault) => Err(fault),
     }
 }

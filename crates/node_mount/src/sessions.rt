@@ -12,15 +12,9 @@ use crate::to_primary::ToPrimary;
 use crate::work::{Work, start_work};
 use file_session::serve_files;
 use lf_base::{Clock, Dialer, Failed, Handles, Link, Name, NoMemory, Pause, Spawner};
-use link_session::{AtSeat, Session, Turns};
+use link_session::AtSeat;
 use node_core::{Answer, Ask};
 use turn_desk::{Desk, Machine, Rest, Seat};
-
-/// The turns of a session.
-pub const BUDGET: u64 = 1 << 62;
-
-// So many that no client uses them up.
-const _: () = prove!(BUDGET >= 1 << 40);
 
 /// For how many milliseconds a request that waits for a lock rests at most.
 const BUSY_MS: u64 = 50;
@@ -153,13 +147,7 @@ fn serve_client<
     ensures { IsOf seat.new desk.now }
 {
     let rt = means.rt;
-    let mut session = Session {
-        alloc: means.alloc,
-        link: &mut served.link,
-        clock: &mut means.clock,
-        pause: &mut served.rest,
-        turns: Turns::new(BUDGET),
-    };
+    let mut session = means.session(&mut served.link, &mut served.rest);
     let mut at = AtSeat {
         rt: &rt,
         desk,

@@ -4,15 +4,12 @@ ghost use Rattle.std.specs.Prelude.{◌≡◌, ◌++◌, max, IfOk};
 ghost use Rattle.node_mount.specs.Duties.{retention_without_rounds};
 ghost use Rattle.node_mount.specs.RoleLines.{start_behind, start_front};
 ghost use Rattle.node_mount.specs.Mounters.{Mounts};
-ghost use Rattle.node_mount.specs.Places.{HasSeenNone};
-ghost use Rattle.node_mount.specs.Serving.{CountsStarts};
 
 use crate::duties::stands_as_primary;
 use crate::ending::info_of;
 use crate::lease_rounds::{nap, prune};
 use crate::line::Line;
 use crate::means::Means;
-use crate::mount_fault::MountFault;
 use crate::mount_keeper::MountKeeper;
 use crate::mounter::Mounter;
 use crate::notes::{MOST, NoteKind, Notes};
@@ -22,8 +19,8 @@ use crate::role_told::RoleTold;
 use crate::sessions::LINKS;
 use crate::stillness::still_line;
 use crate::tell::{Lines, Tell};
-use crate::work::{Work, start_work};
-use lf_base::{Clock, Closing, Handles, NoMemory, Pause, Spawner};
+use crate::work::Work;
+use lf_base::{Clock, Closing, Handles, NoMemory, Pause};
 use node_core::{Answer, Ask, NodeInfo};
 use node_settings::Settings;
 use std::alloc::Global;
@@ -113,38 +110,18 @@ fn behind_of(alloc: Global, settings: &Settings) -> Result<Line, NoMemory>
     Ok(line)
 }
 
-/// Starts the job that watches, at a seat of its own.
-pub fn start_watching<
-    R: Handles + Copy + Send + 'static,
-    K: Machine<Ask = Ask, Answer = Answer> + Send + Drop + 'static,
-    E: Tell + Send + Drop + 'static,
-    N: Mounter + Send + Drop + 'static,
-    S: Spawner,
-    C: Clock + Copy + Send + 'static,
-    P: Pause + Copy + Send + 'static,
->(
-    means: Means<R, C, P>,
-    place: &mut Place<K>,
+/// The work of the job that watches.
+pub fn watching_work<E: Drop, N: Drop>(
     watching: Watching<E, N>,
     closing: &Closing,
-    spawner: &mut S,
-) -> Result<(), MountFault>
-    requires unused { HasSeenNone place.old.seat }
-    ensures unused { HasSeenNone place.new.seat }
-    ensures cause { CountsStarts (S.faults spawner.old) (S.faults spawner.new) result }
-{
-    let (Some(place), Ok(closing)) = (place.another(means.rt), closing.another()) else {
-        return Err(MountFault::NoMemory);
-    };
-    match start_work(means, place, Watcher { watching, closing }, spawner) {
-        Ok(()) => Ok(()),
-        Err(_) => Err(MountFault::NoThread),
-    }
+) -> Result<Watcher<E, N>, NoMemory> {
+    let closing = closing.another()?;
+    Ok(Watcher { watching, closing })
 }
 
 /// The work of the job.
 #[derive(Drop)]
-struct Watcher<E, N> {
+pub struct Watcher<E, N> {
     watching: Watching<E, N>,
     closing: Closing,
 }

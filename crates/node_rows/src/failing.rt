@@ -105,108 +105,106 @@ fn serve<R: Handles + Copy>(
     })
 }
 
-/// Plays a session with the node of a start, over a link that gives these requests, of which a call fails.
-fn play<R: Handles + Copy>(
+/// A session with the node of a start, that is played for each failure.
+#[derive(Clone, Copy)]
+struct Trial<'a, R> {
     rt: R,
     alloc: Global,
     start: Start,
-    session: &Session,
-    requests: &[u8],
-    failing: u64,
-) -> Result<Played, Fault> {
-    let mut link = link_failing(alloc, requests, room_of(session), failing)?;
-    let mut stage = Stage::new(alloc, open_node(alloc, start)?)?;
-    let played = serve(rt, alloc, &mut stage, &mut link, session.ending.budget);
-    drop(stage);
-    played
+    session: &'a Session,
 }
 
-/// Each call of the link fails, up to the first session that is closed.
-fn fail_link<R: Handles + Copy>(
-    rt: R,
-    alloc: Global,
-    start: Start,
-    session: &Session,
-) -> Result<Counts, Fault> {
-    let mut counts = NONE;
-    for call in 0..MOST {
-        let played = play(rt, alloc, start, session, &session.requests, call)?;
-        if played.ended == SessionEnd::Closed {
-            break;
-        }
-        counts.add(&played, session, start.transactions);
+impl<R: Handles + Copy> Trial<'_, R> {
+    /// Plays it over a link that gives these requests, of which a call fails.
+    fn play(&self, requests: &[u8], failing: u64) -> Result<Played, Fault> {
+        let (alloc, session) = (self.alloc, self.session);
+        let mut link = link_failing(alloc, requests, room_of(session), failing)?;
+        let mut stage = Stage::new(alloc, open_node(alloc, self.start)?)?;
+        let played = serve(self.rt, alloc, &mut stage, &mut link, session.ending.budget);
+        drop(stage);
+        played
     }
-    Ok(counts)
-}
 
-/// The disk stops at each of its calls, up to the first session that is answered as without a stop.
-fn stop_disk<R: Handles + Copy>(
-    rt: R,
-    alloc: Global,
-    start: Start,
-    session: &Session,
-) -> Result<Counts, Fault> {
-    let mut counts = NONE;
-    for call in 0..MOST {
+    fn count(&self, played: &Played, counts: &mut Counts) {
+        counts.add(played, self.session, self.start.transactions);
+    }
+
+    /// Each call of the link fails, up to the first session that is closed.
+    fn fail_link(&self) -> Result<Counts, Fault> {
+        let mut counts = NONE;
+        for call in 0..MOST {
+            let played = self.play(&self.session.requests, call)?;
+            if played.ended == SessionEnd::Closed {
+                break;
+            }
+            self.count(&played, &mut counts);
+        }
+        Ok(counts)
+    }
+
+    /// Plays it on a disk that stops at a call.
+    fn play_stopped(&self, call: u64) -> Result<Played, Fault> {
         let start = Start {
             stop: Some(call),
-            ..start
+            ..self.start
         };
-        let played = play(rt, alloc, start, session, &session.requests, NEVER)?;
-        if played.replies.as_slice() == session.replies.as_slice() {
-            break;
+        let stopped = Trial { start, ..*self };
+        stopped.play(&self.session.requests, NEVER)
+    }
+
+    /// The disk stops at each of its calls, up to the first session that is answered as without a stop.
+    fn stop_disk(&self) -> Result<Counts, Fault> {
+        let mut counts = NONE;
+        for call in 0..MOST {
+            let played = self.play_stopped(call)?;
+            if played.replies.as_slice() == self.session.replies.as_slice() {
+                break;
+            }
+            self.count(&played, &mut counts);
         }
-        counts.add(&played, session, start.transactions);
+        Ok(counts)
     }
-    Ok(counts)
-}
 
-/// The requests end at each of their bytes.
-fn cut_requests<R: Handles + Copy>(
-    rt: R,
-    alloc: Global,
-    start: Start,
-    session: &Session,
-) -> Result<Counts, Fault> {
-    let mut counts = NONE;
-    for count in 0..=session.requests.len() {
-        let front = session.requests.get(..count).unwrap_or(&[]);
-        let played = play(rt, alloc, start, session, front, NEVER)?;
-        counts.add(&played, session, start.transactions);
+    /// The requests end at each of their bytes.
+    fn cut_requests(&self) -> Result<Counts, Fault> {
+        let mut counts = NONE;
+        for count in 0..=self.session.requests.len() {
+            let front = self.session.requests.get(..count).unwrap_or(&[]);
+            let played = self.play(front, NEVER)?;
+            self.count(&played, &mut counts);
+        }
+        Ok(counts)
     }
-    Ok(counts)
 }
 
-fn print_cut<R: Handles + Print + Copy>(
-    rt: R,
-    alloc: Global,
-    start: Start,
-    session: &Session,
-) -> Result<(), Fault> {
-    let counts = cut_requests(rt, alloc, start, session)?;
-    counts.print(&rt, CUT, "each front of its requests")?;
-    counts.print_fronts(&rt, CUT)
-}
+impl<R: Handles + Print + Copy> Trial<'_, R> {
+    fn print_cut(&self) -> Result<(), Fault> {
+        let counts = self.cut_requests()?;
+        counts.print(&self.rt, CUT, "each front of its requests")?;
+        counts.print_fronts(&self.rt, CUT)
+    }
 
-fn print_failing<R: Handles + Print + Copy>(
-    rt: R,
-    alloc: Global,
-    start: Start,
-    session: &Session,
-) -> Result<(), Fault> {
-    let counts = fail_link(rt, alloc, start, session)?;
-    counts.print(&rt, NAME, "each call of its link fails")?;
-    counts.print_fronts(&rt, NAME)?;
-    let counts = stop_disk(rt, alloc, start, session)?;
-    counts.print(&rt, NAME, "its disk stops at each call")
+    fn print_failing(&self) -> Result<(), Fault> {
+        let counts = self.fail_link()?;
+        counts.print(&self.rt, NAME, "each call of its link fails")?;
+        counts.print_fronts(&self.rt, NAME)?;
+        let counts = self.stop_disk()?;
+        counts.print(&self.rt, NAME, "its disk stops at each call")
+    }
 }
 
 /// The sessions of a scene, where it is one of the two.
 fn play_named<R: Handles + Print + Copy>(rt: R, alloc: Global, scene: &Scene) -> Result<(), Fault> {
     for session in &scene.sessions {
+        let trial = Trial {
+            rt,
+            alloc,
+            start: scene.start,
+            session,
+        };
         match scene.name.as_str() {
-            NAME => print_failing(rt, alloc, scene.start, session)?,
-            CUT => print_cut(rt, alloc, scene.start, session)?,
+            NAME => trial.print_failing()?,
+            CUT => trial.print_cut()?,
             _ => {}
         }
     }

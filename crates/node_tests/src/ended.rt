@@ -1,17 +1,17 @@
 //! How nodes end over memory: a stream from one, and one whose disk fails.
 ghost use Rattle.std.specs.Prelude.{All, IfOk};
-ghost use Rattle.node_mount.specs.MemMaker.{IsNewDisk, IsNewDoor, IsNewSpawner};
+ghost use Rattle.node_mount.specs.MemMaker.{IsNewDisk, IsNewSpawner};
 
-use crate::mounted::{PRIMARY, empty_disk, no_links, one_spawner};
+use crate::mounted::{PRIMARY, door_of, empty_disk, no_links, one_spawner, primary_over};
 use crate::replies::NOT_PRIMARY;
 use crate::same::same;
-use lf_base::{FixedClock, ListAcceptor, SliceSource, ThreadSpawner, Watch};
+use lf_base::{SliceSource, ThreadSpawner};
 use lf_disk::{Disk, FileName, MemDisk};
-use node_mount::{MemMaker, MemParts, MemSpawn, MountFault, mount};
+use node_mount::{MemSpawn, MountFault, mount};
 use std::alloc::Global;
 use std::net::{TcpListener, TcpStream};
 use std::process::Abort;
-use test_base::{SNAPSHOT, encoding, link_of, one};
+use test_base::{SNAPSHOT, encoding, one};
 
 const STREAM: &[u8] = b"POST /stream HTTP/1.1\r\nHost: localhost\r\nContent-Length: 38\r\n\r\n\
     app 0000000000000000/0000000000000000\n";
@@ -35,17 +35,6 @@ const STARTED: &str = "litefs: start 0.1.0: database app, role primary at \
 
 const BROKEN: &str = "litefs: store broken\n";
 
-/// An acceptor of one link that gives these bytes, and what shows what is written on it.
-fn door_of(rt: impl Copy + Abort, alloc: Global, input: &[u8]) -> (Vec<ListAcceptor>, Watch)
-    ensures { All IsNewDoor result.0.items }
-{
-    let link = link_of(alloc, input, 4096).expect(&rt, "a link");
-    let watch = link.watch();
-    let links = one(alloc, link).expect(&rt, "memory");
-    let accept = ListAcceptor::new(links, Vec::new(alloc)).unwrap();
-    (one(alloc, accept).expect(&rt, "memory"), watch)
-}
-
 /// One that starts a thread for each job.
 fn threads(rt: impl Copy + Abort, alloc: Global) -> Vec<MemSpawn>
     ensures { All IsNewSpawner result.items }
@@ -54,41 +43,12 @@ fn threads(rt: impl Copy + Abort, alloc: Global) -> Vec<MemSpawn>
     one(alloc, MemSpawn::Thread(spawner)).expect(&rt, "memory")
 }
 
-/// A primary over these objects.
-fn primary_over(
-    rt: impl Copy + Abort,
-    alloc: Global,
-    disks: Vec<MemDisk>,
-    files: Vec<ListAcceptor>,
-    http: Vec<ListAcceptor>,
-    spawners: Vec<MemSpawn>,
-) -> MemMaker
-    requires disks { All IsNewDisk disks.items }
-    requires files { All IsNewDoor files.items }
-    requires http { All IsNewDoor http.items }
-    requires spawners { All IsNewSpawner spawners.items }
-{
-    let parts = MemParts {
-        disks,
-        files,
-        http,
-        dialers: Vec::new(alloc),
-        spawners,
-        clock: FixedClock::new(7),
-        node: 9,
-        places: 8,
-        failing: Vec::new(alloc),
-    };
-    let made = MemMaker::new(alloc, parts);
-    made.expect(&rt, "a maker")
-}
-
 /// A static primary to which no more links come ends a stream whose follower is level, and then its job.
 #[test]
 fn a_level_stream_ends(rt: HostRuntime) {
     let _named: Option<(TcpListener, TcpStream)> = None;
     let alloc = rt.alloc();
-    let (http, watch) = door_of(rt, alloc, STREAM);
+    let (http, watch) = door_of(rt, alloc, STREAM, Vec::new(alloc));
     let mut maker = primary_over(
         rt,
         alloc,
@@ -164,7 +124,7 @@ fn a_store_that_breaks_ends_its_node(rt: HostRuntime) {
     let mut last = Stage::NotOpened;
     let mut broke = 0u64;
     for calls in 0..64u64 {
-        let (files, watch) = door_of(rt, alloc, UNLINK);
+        let (files, watch) = door_of(rt, alloc, UNLINK, Vec::new(alloc));
         let mut maker = primary_over(
             rt,
             alloc,

@@ -1,6 +1,6 @@
 //! A node with a lease by etcd, of which a thread plays the one endpoint that answers over the system's sockets.
 
-use crate::leased::{remove_socket, request_on};
+use crate::leased::{letter_of, remove_socket, request_on};
 use crate::same::same;
 use lf_base::{Closing, Handles, SliceSource};
 use node_mount::{SystemMaker, mount};
@@ -11,7 +11,7 @@ use std::process::Abort;
 use std::thread;
 
 /// The paths of calls, and a letter for each.
-const CALLS: [(&str, u8); 5] = [
+const CALLS: &[(&str, u8)] = &[
     ("/v3/kv/range", b'r'),
     ("/v3/lease/grant", b'g'),
     ("/v3/kv/txn", b'p'),
@@ -38,16 +38,6 @@ const NOTHING: &str = "{\"header\":{\"revision\":\"1\"}}";
 /// How often its lease is kept before the word is closed: a round naps 100 ms, in every second one it is kept, and a key stands for a
 /// lease a second behind its put.
 const KEPT: usize = 12;
-
-fn letter_of<R: Copy + Abort>(rt: R, request: &[u8]) -> u8 {
-    let text = str::from_utf8(request).expect(&rt, "text");
-    for (path, letter) in CALLS {
-        if text.contains(path) {
-            return letter;
-        }
-    }
-    b'?'
-}
 
 /// What is replied, by what was asked before.
 fn reply_to(letter: u8, asked: &[u8]) -> &'static str {
@@ -93,7 +83,7 @@ fn serve<R: Handles + Copy + Abort>(
     for _ in 0..1000u32 {
         let (mut stream, _) = etcd.accept().expect(&rt, "a link");
         let request = request_on(rt, alloc, &mut stream);
-        let letter = letter_of(rt, request.as_slice());
+        let letter = letter_of(rt, request.as_slice(), CALLS);
         let reply = reply_to(letter, asked.as_slice());
         asked.push(letter).expect(&rt, "memory");
         if letter == b'k' {

@@ -10,7 +10,7 @@ use std::process::Abort;
 use std::{fs, thread};
 
 /// The words that tell requests to the service apart, and a letter for each.
-const ASKS: [(&str, u8); 4] = [
+const ASKS: &[(&str, u8)] = &[
     ("\"info\"", b'i'),
     ("\"acquire\"", b'a'),
     ("\"renew\"", b'r'),
@@ -111,11 +111,12 @@ pub(crate) fn request_on<R: Copy + Abort>(rt: R, alloc: Global, stream: &mut Tcp
     request
 }
 
-fn letter_of<R: Copy + Abort>(rt: R, request: &[u8]) -> u8 {
+/// The letter of the first of these words that a request has.
+pub(crate) fn letter_of<R: Copy + Abort>(rt: R, request: &[u8], words: &[(&str, u8)]) -> u8 {
     let text = str::from_utf8(request).expect(&rt, "text");
-    for (word, letter) in ASKS {
-        if text.contains(word) {
-            return letter;
+    for (word, letter) in words {
+        if text.contains(*word) {
+            return *letter;
         }
     }
     b'?'
@@ -172,7 +173,7 @@ fn serve<R: Handles + Copy + Abort>(
     for number in 0..script.last {
         let (mut stream, _) = service.accept().expect(&rt, "a link");
         let request = request_on(rt, alloc, &mut stream);
-        let letter = letter_of(rt, request.as_slice());
+        let letter = letter_of(rt, request.as_slice(), ASKS);
         seen.letters.push(letter).expect(&rt, "memory");
         if number == script.named.saturating_add(1) {
             seen.early = hang_up_all(other);

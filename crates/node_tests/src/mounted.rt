@@ -116,14 +116,18 @@ fn a_start_keeps_the_database(rt: HostRuntime) {
     fs::remove_file(&rt, "node_mount_kept_socket").expect(&rt, "removed");
 }
 
-/// An acceptor whose first call fails, and the next gives a link, and what shows what is written on it.
-fn door_that_fails_first(rt: impl Copy + Abort, alloc: Global) -> (Vec<ListAcceptor>, Watch)
+/// An acceptor of one link that gives these bytes, whose calls of these numbers fail, and what shows what is written on the link.
+pub(crate) fn door_of(
+    rt: impl Copy + Abort,
+    alloc: Global,
+    input: &[u8],
+    failing: Vec<u64>,
+) -> (Vec<ListAcceptor>, Watch)
     ensures { All IsNewDoor result.0.items }
 {
-    let link = link_of(alloc, REQUEST, 4096).expect(&rt, "a link");
+    let link = link_of(alloc, input, 4096).expect(&rt, "a link");
     let watch = link.watch();
     let links = one(alloc, link).expect(&rt, "memory");
-    let failing = one(alloc, 0).expect(&rt, "memory");
     let accept = ListAcceptor::new(links, failing).unwrap();
     (one(alloc, accept).expect(&rt, "memory"), watch)
 }
@@ -151,24 +155,49 @@ pub(crate) fn one_spawner(rt: impl Copy + Abort, alloc: Global) -> Vec<MemSpawn>
     one(alloc, MemSpawn::Call(spawner)).expect(&rt, "memory")
 }
 
-#[test]
-fn http_goes_on_after_a_failed_accept(rt: HostRuntime) {
-    let _named: Option<(TcpListener, TcpStream)> = None;
-    let alloc = rt.alloc();
-    let (http, watch) = door_that_fails_first(rt, alloc);
+/// A primary over these objects.
+pub(crate) fn primary_over(
+    rt: impl Copy + Abort,
+    alloc: Global,
+    disks: Vec<MemDisk>,
+    files: Vec<ListAcceptor>,
+    http: Vec<ListAcceptor>,
+    spawners: Vec<MemSpawn>,
+) -> MemMaker
+    requires disks { All IsNewDisk disks.items }
+    requires files { All IsNewDoor files.items }
+    requires http { All IsNewDoor http.items }
+    requires spawners { All IsNewSpawner spawners.items }
+{
     let parts = MemParts {
-        disks: empty_disk(rt, alloc),
-        files: no_links(rt, alloc),
+        disks,
+        files,
         http,
         dialers: Vec::new(alloc),
-        spawners: one_spawner(rt, alloc),
+        spawners,
         clock: FixedClock::new(7),
         node: 9,
         places: 8,
         failing: Vec::new(alloc),
     };
     let made = MemMaker::new(alloc, parts);
-    let mut maker = made.expect(&rt, "a maker");
+    made.expect(&rt, "a maker")
+}
+
+#[test]
+fn http_goes_on_after_a_failed_accept(rt: HostRuntime) {
+    let _named: Option<(TcpListener, TcpStream)> = None;
+    let alloc = rt.alloc();
+    let failing = one(alloc, 0).expect(&rt, "memory");
+    let (http, watch) = door_of(rt, alloc, REQUEST, failing);
+    let mut maker = primary_over(
+        rt,
+        alloc,
+        empty_disk(rt, alloc),
+        no_links(rt, alloc),
+        http,
+        one_spawner(rt, alloc),
+    );
     let mut config = SliceSource::new(PRIMARY, Vec::new(alloc)).expect(&rt, "a source");
     same(rt, mount(rt, alloc, &mut config, &mut maker), Ok(()));
     let written = watch.bytes().expect(&rt, "memory");

@@ -1,9 +1,9 @@
 //! A node over memory whose files are mounted by a program.
 use crate::asking::asked_at;
-use crate::mounted::{PRIMARY, STARTED, empty_disk, no_links, one_spawner};
+use crate::mounted::{PRIMARY, STARTED, empty_disk, no_links, one_spawner, primary_over};
 use crate::same::same;
-use lf_base::{Errno, FixedClock, SliceSource};
-use node_mount::{MemMaker, MemParts, MemProgram, ProgramEnd, mount};
+use lf_base::{Errno, SliceSource};
+use node_mount::{MemMaker, MemProgram, ProgramEnd, mount};
 use std::alloc::Global;
 use std::net::{TcpListener, TcpStream};
 use std::process::Abort;
@@ -35,19 +35,9 @@ const ROWS: &[(&str, MemProgram, &str)] = &[
 ];
 
 fn maker(rt: impl Copy + Abort, alloc: Global) -> MemMaker {
-    let parts = MemParts {
-        disks: empty_disk(rt, alloc),
-        files: no_links(rt, alloc),
-        http: no_links(rt, alloc),
-        dialers: Vec::new(alloc),
-        spawners: one_spawner(rt, alloc),
-        clock: FixedClock::new(7),
-        node: 9,
-        places: 8,
-        failing: Vec::new(alloc),
-    };
-    let made = MemMaker::new(alloc, parts);
-    made.expect(&rt, "a maker")
+    let (files, http) = (no_links(rt, alloc), no_links(rt, alloc));
+    let disks = empty_disk(rt, alloc);
+    primary_over(rt, alloc, disks, files, http, one_spawner(rt, alloc))
 }
 
 /// The program is started where the configuration names a folder, and the maker is asked for it last.

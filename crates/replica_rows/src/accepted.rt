@@ -5,10 +5,10 @@
 use crate::clients::{commit, commit_and_stay};
 use crate::cluster::{Cluster, Who};
 use crate::levels::gets_level;
-use crate::likeness::is_as;
 use crate::nodes::{MemNode, Part, ask_once, calls_of, is_applied, is_broken, renew, renew_on};
 use crate::permits::{forward_of, gets_permit};
-use crate::tally::{CHOICES, NONE, Tally, count_if};
+use crate::stopping::{Stop, Stopping, judge, print_runs};
+use crate::tally::{Tally, count_if};
 use lf_base::Errno;
 use node_core::{Answer, Ask};
 use std::alloc::Global;
@@ -60,15 +60,6 @@ fn replies(replica: &mut MemNode) -> Answer {
     ask_once(replica, 0, Ask::Forwarded { ok: true })
 }
 
-/// How many calls of the disk there are before the reply, and with it.
-fn counts(alloc: Global, cluster: &mut Cluster<'_>) -> Result<(u64, u64), Fault> {
-    prepare(alloc, cluster, Failing::From, NEVER)?;
-    let before = calls_of(alloc, cluster.left)?;
-    prepare(alloc, cluster, Failing::From, NEVER)?;
-    drop(replies(cluster.left));
-    Ok((before, calls_of(alloc, cluster.left)?))
-}
-
 /// Whether the client is answered 5, and its replica's store is broken.
 fn refuses(replica: &mut MemNode) -> bool {
     let answer = replies(replica);
@@ -77,42 +68,24 @@ fn refuses(replica: &mut MemNode) -> bool {
     refused && is_broken(replica)
 }
 
-/// Where the replica is after its restart, and whether it is level after what it is owed there.
-fn judge(cluster: &mut Cluster<'_>, tally: &mut Tally) {
-    count_if(&mut tally.before, is_as(cluster.left, cluster.right));
-    count_if(&mut tally.after, is_as(cluster.left, cluster.primary));
-    let is_level = gets_level(cluster.primary, cluster.left)
-        && is_as(cluster.left, cluster.primary);
-    count_if(&mut tally.level, is_level);
-}
-
-/// One run: the call that fails, and what the crash leaves.
-fn run(
-    alloc: Global,
-    cluster: &mut Cluster<'_>,
-    failing: Failing,
-    call: u64,
-    choice: u64,
-    tally: &mut Tally,
-) -> Result<(), Fault> {
-    prepare(alloc, cluster, failing, call)?;
-    count_if(&mut tally.runs, true);
-    count_if(&mut tally.refused, refuses(cluster.left));
-    cluster.restart(alloc, Who::Left, choice)?;
-    judge(cluster, tally);
-    Ok(())
-}
-
-/// All runs.
-fn runs(alloc: Global, cluster: &mut Cluster<'_>, failing: Failing) -> Result<Tally, Fault> {
-    let (before, end) = counts(alloc, cluster)?;
-    let mut tally = NONE;
-    for call in before..end {
-        for choice in CHOICES {
-            run(alloc, cluster, failing, call, choice, &mut tally)?;
-        }
+/// The left replica gets the reply.
+impl Stopping for Cluster<'_> {
+    fn counts(&mut self, alloc: Global) -> Result<(u64, u64), Fault> {
+        prepare(alloc, self, Failing::From, NEVER)?;
+        let before = calls_of(alloc, self.left)?;
+        prepare(alloc, self, Failing::From, NEVER)?;
+        drop(replies(self.left));
+        Ok((before, calls_of(alloc, self.left)?))
     }
-    Ok(tally)
+
+    fn run(&mut self, alloc: Global, stop: Stop, tally: &mut Tally) -> Result<(), Fault> {
+        prepare(alloc, self, stop.failing, stop.call)?;
+        count_if(&mut tally.runs, true);
+        count_if(&mut tally.refused, refuses(self.left));
+        self.restart(alloc, Who::Left, stop.choice)?;
+        judge(self.left, self.right, self.primary, tally);
+        Ok(())
+    }
 }
 
 /// A node becomes one that stands where the replica stands before it applies the commit.
@@ -123,29 +96,14 @@ fn stays(alloc: Global, cluster: &mut Cluster<'_>) -> Result<(), Fault> {
     Ok(())
 }
 
-fn print_failing(
-    rt: HostRuntime,
-    title: &str,
-    cluster: &mut Cluster<'_>,
-    failing: Failing,
-) -> Result<(), Fault> {
-    let tally = runs(rt.alloc(), cluster, failing)?;
-    tally.print(rt, title, 2, 3)
-}
-
 /// A stop at each call, and a fault of each call alone.
 pub fn print_accepted(rt: HostRuntime, cluster: &mut Cluster<'_>) -> Result<(), Fault> {
     stays(rt.alloc(), cluster)?;
-    print_failing(
+    print_runs(
         rt,
         "a replica stops at each call of its disk while it applies a commit of its own that was accepted",
         cluster,
-        Failing::From,
-    )?;
-    print_failing(
-        rt,
-        "one call of its disk fails meanwhile",
-        cluster,
-        Failing::At,
+        2,
+        3,
     )
 }

@@ -21,6 +21,7 @@ mod readers;
 mod road;
 mod scenes;
 mod seeds;
+mod stopping;
 mod stops;
 mod strange;
 mod tally;

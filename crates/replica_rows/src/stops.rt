@@ -2,10 +2,9 @@
 //! makes of its disk for it fails in turn. Then its disk is crashed, and it is restarted.
 
 use crate::files::{Files, files_of};
-use crate::levels::gets_level;
-use crate::likeness::is_as;
 use crate::nodes::{MemNode, Part, ask, calls_of, renew_on, restart};
-use crate::tally::{CHOICES, NONE, Tally, count_if};
+use crate::stopping::{Stop, Stopping, judge, print_runs};
+use crate::tally::{Tally, count_if};
 use node_core::{Answer, Refusal};
 use std::alloc::Global;
 use test_base::{Failing, Fault, NEVER};
@@ -34,15 +33,6 @@ fn prepare(
     Ok(())
 }
 
-/// How many calls of the disk there are before the install, and with it.
-fn counts(alloc: Global, files: &Files, replica: &mut MemNode) -> Result<(u64, u64), Fault> {
-    prepare(alloc, files, replica, Failing::From, NEVER)?;
-    let before = calls_of(alloc, replica)?;
-    prepare(alloc, files, replica, Failing::From, NEVER)?;
-    drop(ask(replica, 0, &files.snapshot));
-    Ok((before, calls_of(alloc, replica)?))
-}
-
 /// Why the store refused.
 fn refusal(answer: Answer) -> Option<StoreFault> {
     let refused = match &answer {
@@ -60,66 +50,24 @@ fn refuses(replica: &mut MemNode, files: &Files) -> bool {
     matches!(first, Some(StoreFault::Disk)) && matches!(second, Some(StoreFault::Broken))
 }
 
-/// Where the replica is after its restart, and whether it is level after what it is owed there.
-fn judge(install: &mut Install<'_>, tally: &mut Tally) {
-    count_if(&mut tally.before, is_as(install.replica, install.old));
-    count_if(&mut tally.after, is_as(install.replica, install.new));
-    let is_level = gets_level(install.new, install.replica) && is_as(install.replica, install.new);
-    count_if(&mut tally.level, is_level);
-}
-
-/// One run: the call that fails, and what the crash leaves.
-fn run(
-    alloc: Global,
-    install: &mut Install<'_>,
-    failing: Failing,
-    call: u64,
-    choice: u64,
-    tally: &mut Tally,
-) -> Result<(), Fault> {
-    prepare(alloc, install.files, install.replica, failing, call)?;
-    count_if(&mut tally.runs, true);
-    count_if(&mut tally.refused, refuses(install.replica, install.files));
-    restart(alloc, install.replica, Part::Replica, choice)?;
-    judge(install, tally);
-    Ok(())
-}
-
-/// All runs.
-fn runs(alloc: Global, install: &mut Install<'_>, failing: Failing) -> Result<Tally, Fault> {
-    let (before, end) = counts(alloc, install.files, install.replica)?;
-    let mut tally = NONE;
-    for call in before..end {
-        for choice in CHOICES {
-            run(alloc, install, failing, call, choice, &mut tally)?;
-        }
+/// The replica installs the snapshot.
+impl Stopping for Install<'_> {
+    fn counts(&mut self, alloc: Global) -> Result<(u64, u64), Fault> {
+        prepare(alloc, self.files, self.replica, Failing::From, NEVER)?;
+        let before = calls_of(alloc, self.replica)?;
+        prepare(alloc, self.files, self.replica, Failing::From, NEVER)?;
+        drop(ask(self.replica, 0, &self.files.snapshot));
+        Ok((before, calls_of(alloc, self.replica)?))
     }
-    Ok(tally)
-}
 
-fn print_failing(
-    rt: HostRuntime,
-    title: &str,
-    install: &mut Install<'_>,
-    failing: Failing,
-) -> Result<(), Fault> {
-    let tally = runs(rt.alloc(), install, failing)?;
-    tally.print(rt, title, 9, 6)
-}
-
-fn print_both(rt: HostRuntime, install: &mut Install<'_>) -> Result<(), Fault> {
-    print_failing(
-        rt,
-        "a replica stops at each call of its disk while it installs a snapshot",
-        install,
-        Failing::From,
-    )?;
-    print_failing(
-        rt,
-        "one call of its disk fails meanwhile",
-        install,
-        Failing::At,
-    )
+    fn run(&mut self, alloc: Global, stop: Stop, tally: &mut Tally) -> Result<(), Fault> {
+        prepare(alloc, self.files, self.replica, stop.failing, stop.call)?;
+        count_if(&mut tally.runs, true);
+        count_if(&mut tally.refused, refuses(self.replica, self.files));
+        restart(alloc, self.replica, Part::Replica, stop.choice)?;
+        judge(self.replica, self.old, self.new, tally);
+        Ok(())
+    }
 }
 
 /// A stop at each call, and a fault of each call alone.
@@ -136,7 +84,13 @@ pub fn print_stops(
         replica,
         files: &files,
     };
-    let printed = print_both(rt, &mut install);
+    let printed = print_runs(
+        rt,
+        "a replica stops at each call of its disk while it installs a snapshot",
+        &mut install,
+        9,
+        6,
+    );
     drop(files);
     printed
 }

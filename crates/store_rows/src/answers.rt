@@ -1,7 +1,7 @@
 //! What followers at some positions are owed.
 use crate::samples::B;
 use crate::steps::{Step, Way};
-use crate::stores::{MemStore, made};
+use crate::stores::{MemStore, made, print_of};
 use lf_base::Pos;
 use std::io;
 use test_base::{ONE_PAGE, TWO_PAGES};
@@ -70,14 +70,8 @@ fn print_pruned(rt: HostRuntime, store: &mut MemStore) -> io::Result<()> {
 }
 
 pub fn print_log(rt: HostRuntime) -> io::Result<()> {
-    match made(rt.alloc(), Way::Whole, FOUR) {
-        Some(mut store) => {
-            let printed = print_pruned(rt, &mut store);
-            drop(store);
-            printed
-        }
-        None => println!(rt; "no log of four"),
-    }
+    let store = made(rt.alloc(), Way::Whole, FOUR);
+    print_of(rt, store, "no log of four", |store| print_pruned(rt, store))
 }
 
 /// The file checksum of the last of the four, by an LTX encoder of another language.
@@ -117,14 +111,8 @@ fn print_said(rt: HostRuntime, store: &mut MemStore) -> io::Result<()> {
 
 /// The same of the log of four files.
 pub fn print_last(rt: HostRuntime) -> io::Result<()> {
-    match made(rt.alloc(), Way::Whole, FOUR) {
-        Some(mut store) => {
-            let printed = print_said(rt, &mut store);
-            drop(store);
-            printed
-        }
-        None => println!(rt; "no log of four"),
-    }
+    let store = made(rt.alloc(), Way::Whole, FOUR);
+    print_of(rt, store, "no log of four", |store| print_said(rt, store))
 }
 
 /// A database is dropped, and written again.
@@ -136,14 +124,13 @@ const DROPS: &[(&str, &[Step])] = &[
 
 fn print_drop(rt: HostRuntime, title: &str, steps: &[Step]) -> io::Result<()> {
     println!(rt; "{title}")?;
-    match made(rt.alloc(), Way::Whole, steps) {
-        Some(store) => {
-            let printed = print_owed(rt, &store, AROUND);
-            drop(store);
-            printed
-        }
-        None => println!(rt; "  no store"),
-    }
+    let store = made(rt.alloc(), Way::Whole, steps);
+    print_of(
+        rt,
+        store,
+        "  no store",
+        |store| print_owed(rt, store, AROUND),
+    )
 }
 
 pub fn print_drops(rt: HostRuntime) -> io::Result<()> {

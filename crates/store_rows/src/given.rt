@@ -3,7 +3,7 @@ use crate::samples::{A, B, FILLED_TO_6, ONE_AND_TWO, Sample, ZEROS_TO_8, encodin
 use crate::sources::take_from;
 use crate::stages::{Stage, is_just};
 use crate::steps::{Step, Taking, Way};
-use crate::stores::{MemStore, calls_of, made, stopped};
+use crate::stores::{MemStore, calls_of, made, print_of, stopped};
 use lf_base::Pos;
 use std::alloc::Global;
 use std::io;
@@ -147,14 +147,12 @@ fn print_to(
     store: Option<MemStore>,
     gifts: &[Gift],
 ) -> io::Result<()> {
-    match store {
-        Some(mut store) => {
-            let printed = print_gifts(rt, title, &mut store, gifts);
-            drop(store);
-            printed
-        }
-        None => println!(rt; "no store"),
-    }
+    print_of(
+        rt,
+        store,
+        "no store",
+        |store| print_gifts(rt, title, store, gifts),
+    )
 }
 
 /// A first commit, of a page of zeros, and a file behind it.
@@ -175,14 +173,8 @@ fn print_replaced(rt: HostRuntime, store: &mut MemStore) -> io::Result<()> {
 }
 
 fn print_at_nine(rt: HostRuntime) -> io::Result<()> {
-    match made(rt.alloc(), Way::Whole, TO_NINE) {
-        Some(mut store) => {
-            let printed = print_replaced(rt, &mut store);
-            drop(store);
-            printed
-        }
-        None => println!(rt; "no store"),
-    }
+    let store = made(rt.alloc(), Way::Whole, TO_NINE);
+    print_of(rt, store, "no store", |store| print_replaced(rt, store))
 }
 
 pub fn print_given(rt: HostRuntime) -> io::Result<()> {

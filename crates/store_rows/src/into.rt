@@ -5,7 +5,7 @@ use crate::given::broken;
 use crate::samples::{A, encoding_of};
 use crate::sources::room;
 use crate::steps::{Step, Way};
-use crate::stores::{MemStore, calls_of, made, stopped};
+use crate::stores::{MemStore, calls_of, made, print_of, stopped};
 use lf_base::VecSink;
 use snapshot::{IntoFault, make_into};
 use std::alloc::Global;
@@ -76,18 +76,6 @@ fn print_into(rt: HostRuntime, file: &[u8], store: &mut MemStore, failing: u64) 
     print_taken(rt, file, ended, &sink)
 }
 
-/// The same, if there is a store.
-fn print_of(rt: HostRuntime, file: &[u8], store: Option<MemStore>) -> io::Result<()> {
-    match store {
-        Some(mut store) => {
-            let printed = print_into(rt, file, &mut store, WRITES);
-            drop(store);
-            printed
-        }
-        None => println!(rt; "no store"),
-    }
-}
-
 /// Each write fails in turn, and then none.
 fn print_writes(rt: HostRuntime, file: &[u8], store: &mut MemStore) -> io::Result<()> {
     for failing in 0..=WRITES {
@@ -101,9 +89,19 @@ fn print_all(rt: HostRuntime, file: &[u8], store: &mut MemStore) -> io::Result<(
     println!(rt; "a snapshot into a sink")?;
     print_writes(rt, file, store)?;
     print!(rt; "  its disk fails: ")?;
-    print_of(rt, file, failing(rt.alloc()))?;
+    print_of(
+        rt,
+        failing(rt.alloc()),
+        "no store",
+        |store| print_into(rt, file, store, WRITES),
+    )?;
     print!(rt; "  a broken store: ")?;
-    print_of(rt, file, broken(rt.alloc()))
+    print_of(
+        rt,
+        broken(rt.alloc()),
+        "no store",
+        |store| print_into(rt, file, store, WRITES),
+    )
 }
 
 pub fn print_snapshots(rt: HostRuntime) -> io::Result<()> {

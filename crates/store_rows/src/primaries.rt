@@ -5,7 +5,7 @@ ghost use Rattle.ltx_codec.specs.Format.{IsFile};
 
 use crate::samples::{FILLED_TO_6, Sample, ZEROS_TO_8, file_in};
 use crate::steps::{Step, Taking, Way, Went, does, takes_file};
-use crate::stores::{MemStore, made};
+use crate::stores::{MemStore, made, print_of};
 use ltx_codec::Ltx;
 use snapshot::make;
 use std::alloc::Global;
@@ -93,24 +93,12 @@ fn print_following(rt: HostRuntime, old: &mut MemStore, new: &mut MemStore) -> i
 }
 
 fn print_with(rt: HostRuntime, old: &mut MemStore) -> io::Result<()> {
-    match made(rt.alloc(), Way::Whole, NEW) {
-        Some(mut new) => {
-            let printed = print_following(rt, old, &mut new);
-            drop(new);
-            printed
-        }
-        None => println!(rt; "no new store"),
-    }
+    let new = made(rt.alloc(), Way::Whole, NEW);
+    print_of(rt, new, "no new store", |new| print_following(rt, old, new))
 }
 
 /// An old primary follows a new one.
 pub fn print_primaries(rt: HostRuntime) -> io::Result<()> {
-    match made(rt.alloc(), Way::Whole, OLD) {
-        Some(mut old) => {
-            let printed = print_with(rt, &mut old);
-            drop(old);
-            printed
-        }
-        None => println!(rt; "no old store"),
-    }
+    let old = made(rt.alloc(), Way::Whole, OLD);
+    print_of(rt, old, "no old store", |old| print_with(rt, old))
 }

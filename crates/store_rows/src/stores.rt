@@ -5,6 +5,7 @@ use crate::steps::{Step, Way, run};
 use lf_disk::{Disk, MemDisk};
 use node_recovery::recover;
 use std::alloc::Global;
+use std::io;
 use test_base::{Failing, NEVER, blank};
 use txn_log::Store;
 
@@ -63,4 +64,23 @@ pub fn calls_of(alloc: Global, way: Way, steps: &[Step]) -> Option<(u64, u64)> {
     let calls = (store.disk.calls(), store.disk.moment());
     drop(store);
     Some(calls)
+}
+
+/// Prints what is seen of a store, or that there is none.
+pub fn print_of<F: FnOnce(&mut MemStore) -> io::Result<()>>(
+    rt: HostRuntime,
+    store: Option<MemStore>,
+    none: &str,
+    print: F,
+) -> io::Result<()>
+    requires { F.IsAlwaysCallable print }
+{
+    match store {
+        Some(mut store) => {
+            let printed = print(&mut store);
+            drop(store);
+            printed
+        }
+        None => println!(rt; "{none}"),
+    }
 }

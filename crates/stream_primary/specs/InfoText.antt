@@ -2,8 +2,8 @@
 use Rattle.std.specs.Prelude.{ℕ, ◌/◌, List, ◌++◌, Bool, true, false, codes, Option, None}
 use Rattle.lf_base.specs.Hex.{hex_digits}
 use Rattle.lf_base.specs.Position.{position_text}
-use Rattle.file_view.specs.declared.role.Role.{Role}
-use Rattle.file_view.specs.declared.role.Role.TheVariants as role
+use Rattle.file_view.specs.declared.view.Role.{Role}
+use Rattle.file_view.specs.declared.view.Role.TheVariants as role
 use Rattle.node_core.specs.declared.info.NodeInfo.{NodeInfo}
 use Rattle.stream_primary.specs.JsonText.{number_member, quoted_member, text_member, truth_member}
 use Rattle.stream_primary.specs.MetricsText.{is_primary}

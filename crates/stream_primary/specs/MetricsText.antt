@@ -1,7 +1,7 @@
 -- GET /metrics: what a node is and its figures, in Prometheus' text format.
 use Rattle.std.specs.Prelude.{ℕ, List, [], ◌∷◌, ◌++◌, Bool, true, false, codes, decimal, nat_eq, not}
-use Rattle.file_view.specs.declared.role.Role.{Role}
-use Rattle.file_view.specs.declared.role.Role.TheVariants as role
+use Rattle.file_view.specs.declared.view.Role.{Role}
+use Rattle.file_view.specs.declared.view.Role.TheVariants as role
 use Rattle.node_core.specs.declared.info.NodeInfo.{NodeInfo}
 use Rattle.stream_primary.specs.declared.figures.Figures.{Figures}
 use Rattle.stream_primary.specs.declared.figures.Refused.{Refused}

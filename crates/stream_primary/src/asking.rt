@@ -1,16 +1,13 @@
 //! One ask of the node, and its answer as the reply.
-ghost use Rattle.std.specs.Prelude.{◌≡◌, ◌++◌, ◌∷◌, [], length, Err, IfOk, OnErr};
+ghost use Rattle.std.specs.Prelude.{◌≡◌, Err};
 ghost use Rattle.std.specs.Io.KnownBytes.{Keeps};
 ghost use Rattle.lf_base.specs.declared.session_end.SessionEnd.TheVariants as ends;
-ghost use Rattle.link_session.specs.Asking.{EndsAsking};
-ghost use Rattle.link_session.specs.Spending.{AsksFor};
 ghost use Rattle.link_session.specs.Stands.{stand, GoesOn, Spends};
-ghost use Rattle.turn_desk.specs.History.{entry};
 ghost use Rattle.stream_primary.specs.Asking.{ServesAsk};
 
 use crate::replies::reply_to;
 use lf_base::{Link, SessionEnd};
-use link_session::{Steps, Turns};
+use link_session::{Steps, Turns, take_step};
 use node_core::{Answer, Ask};
 use std::alloc::Global;
 
@@ -31,27 +28,5 @@ pub fn ask_once<S: Steps<Ask = Ask, Answer = Answer>, L: Link>(
     match take_step(steps, ask, turns) {
         Ok(answer) => reply_to(alloc, link, &answer, turns),
         Err(end) => end,
-    }
-}
-
-/// Asks, which is a turn.
-pub fn take_step<S: Steps<Ask = Ask, Answer = Answer>>(
-    steps: &mut S,
-    ask: &Ask,
-    turns: &mut Turns,
-) -> Result<Answer, SessionEnd>
-    ensures asked { IfOk result (λ answer. S.entries steps.new ≡ S.entries steps.old ++ entry (S.number steps.old) ask.now answer ∷ []) }
-    ensures still { OnErr result (S.entries steps.new ≡ S.entries steps.old) }
-    ensures same { (S.of steps.new ≡ S.of steps.old) × (S.number steps.new ≡ S.number steps.old) × GoesOn S.Steps steps.old steps.new }
-    ensures spent { AsksFor result turns.old (length (S.entries steps.old)) turns.new (length (S.entries steps.new)) }
-    ensures cause { EndsAsking (S.is_worn steps.new) turns.new result }
-{
-    match turns.take() {
-        Ok(()) => {}
-        Err(_) => return Err(SessionEnd::Turns),
-    }
-    match steps.ask(ask) {
-        Ok(answer) => Ok(answer),
-        Err(_) => Err(SessionEnd::Worn),
     }
 }

@@ -16,7 +16,7 @@ use crate::event_lines::{put_init, put_later, stays, viewed_of};
 use crate::replies::refuse_answer;
 use crate::viewed::Viewed;
 use lf_base::{Clock, Failed, Link, Name, NoMemory, Pause, Pos, SessionEnd};
-use link_session::{Session, Steps, Turns, write_whole};
+use link_session::{Session, Steps, Turns, take_step, write_whole};
 use node_core::{Answer, Ask, Files, NodeInfo};
 use std::alloc::Global;
 use stream_wire::write_typed_head;
@@ -121,18 +121,11 @@ fn ask_watch<S: Steps<Ask = Ask, Answer = Answer>, C: Clock>(
     ensures spent { AsksFor result turns.old (length (S.entries steps.old)) turns.new (length (S.entries steps.new)) }
     ensures cause { EndsAsking (S.is_worn steps.new) turns.new result }
 {
-    match turns.take() {
-        Ok(()) => {}
-        Err(_) => return Err(SessionEnd::Turns),
-    }
     let ask = Ask::Watch {
         now: clock.now_ms(),
         pos: place_of(told),
     };
-    match steps.ask(&ask) {
-        Ok(answer) => Ok(answer),
-        Err(_) => Err(SessionEnd::Worn),
-    }
+    take_step(steps, &ask, turns)
 }
 
 /// Where a reader that was told this is asked for.

@@ -11,13 +11,12 @@ ghost use Rattle.stream_primary.specs.HaltCalls.{AsksPermit, GivesBack, SaysNumb
 ghost use Rattle.stream_primary.specs.Refusing.{EndsReply};
 ghost use Rattle.stream_primary.specs.Request.{CameOf};
 
-use crate::asking::take_step;
 use crate::names::is_same;
 use crate::replies::{refuse, reply_to, say};
 use halt_forward::HaltPass;
 use http_exchange::Body;
 use lf_base::{Clock, Link, Name, NoMemory, Pos, SessionEnd};
-use link_session::{Steps, Turns};
+use link_session::{Steps, Turns, take_step};
 use node_core::{Answer, Ask};
 use std::alloc::Global;
 use stream_wire::{PassLine, read_named_number, write_pass_line};

@@ -14,7 +14,7 @@ use crate::ending::end_stream;
 use crate::standing::{Sent, Standing};
 use crate::telling::{file_of, goes_on, next, put_words};
 use lf_base::{Clock, Failed, Link, Name, Pause, SessionEnd};
-use link_session::{Session, Steps, Turns, write_both};
+use link_session::{Session, Steps, Turns, take_step, write_both};
 use node_core::{Answer, Ask, Whereabouts};
 
 /// Asks one Hello and tells its answer, and answers how the follower stands then. A follower that was
@@ -94,19 +94,12 @@ fn ask_hello<S: Steps<Ask = Ask, Answer = Answer>, C: Clock>(
     ensures spent { AsksFor result turns.old (length (S.entries steps.old)) turns.new (length (S.entries steps.new)) }
     ensures cause { EndsAsking (S.is_worn steps.new) turns.new result }
 {
-    match turns.take() {
-        Ok(()) => {}
-        Err(_) => return Err(SessionEnd::Turns),
-    }
     let ask = Ask::Hello {
         now: clock.now_ms(),
         pos: here.pos,
         last: here.last,
     };
-    match steps.ask(&ask) {
-        Ok(answer) => Ok(answer),
-        Err(_) => Err(SessionEnd::Worn),
-    }
+    take_step(steps, &ask, turns)
 }
 
 /// Tells the follower the answer, and naps where it is level. Nothing is written where memory runs out.

@@ -18,7 +18,7 @@ use crate::metrics_text::{metrics_type, put_metrics};
 use crate::replies::refuse_answer;
 use http_exchange::write_typed_reply;
 use lf_base::{Clock, Link, Name, SessionEnd};
-use link_session::{Session, Steps, Turns};
+use link_session::{Session, Steps, Turns, take_step};
 use node_core::{Answer, Ask, NodeInfo};
 use std::alloc::Global;
 
@@ -123,17 +123,10 @@ fn ask_info<S: Steps<Ask = Ask, Answer = Answer>, C: Clock>(
     ensures spent { AsksFor result turns.old (length (S.entries steps.old)) turns.new (length (S.entries steps.new)) }
     ensures cause { EndsAsking (S.is_worn steps.new) turns.new result }
 {
-    match turns.take() {
-        Ok(()) => {}
-        Err(_) => return Err(SessionEnd::Turns),
-    }
     let ask = Ask::Info {
         now: clock.now_ms(),
     };
-    match steps.ask(&ask) {
-        Ok(answer) => Ok(answer),
-        Err(_) => Err(SessionEnd::Worn),
-    }
+    take_step(steps, &ask, turns)
 }
 
 /// Answers with what the node is, or with its refusal.

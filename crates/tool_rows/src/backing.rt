@@ -2,13 +2,13 @@
 ghost use Rattle.std.specs.Prelude.{All, IfOk};
 ghost use Rattle.node_mount.specs.MemMaker.{IsNewDisk, IsNewPhone};
 
-use crate::backups::{BACKUPS, BackupRow, Last, Stream};
+use crate::backups::{BackupRow, Last, Stream};
 use crate::making::{asking_maker, dialers, watched_link, write_file};
 use crate::playing::{print_watched, run_named};
 use crate::running::host_with;
-use lf_base::{Bytes, Handles, MemDialer, Name, Pos, SliceSource, VecSink, Watch};
+use lf_base::{Bytes, Handles, MemDialer, Name, Pos, SliceSource, Watch};
 use lf_disk::MemDisk;
-use node_mount::{Maker, MemMaker};
+use node_mount::MemMaker;
 use std::alloc::Global;
 use std::fs;
 use std::io::Print;
@@ -145,27 +145,15 @@ fn maker_of<R: Files + AllocGlobal>(
     Ok((asking_maker(alloc, disks_of(rt, row)?, dialers)?, watches))
 }
 
-/// A row over its output.
-fn play_over<R: Handles + Processes + Print + Copy + Send + 'static, M: Maker + Drop>(
+/// A run of `backup` or `restore`.
+pub fn play_backup<R: Handles + Processes + Files + Print + AllocGlobal + Copy + Send + 'static>(
     rt: R,
-    alloc: Global,
     row: &BackupRow,
-    make: M,
 ) -> Result<(), Fault> {
+    let alloc = rt.alloc();
+    let (make, watches) = maker_of(&rt, row)?;
     let input = SliceSource::new(b"left alone", Vec::new(alloc)).unwrap();
-    let output = VecSink::new(alloc, row.output, Vec::new(alloc))?;
-    let mut host = host_with(alloc, input, output, make)?;
-    run_named(rt, alloc, row.line, row.name, &mut host)
-}
-
-/// The runs of `backup` and `restore`.
-pub fn play_backups<R: Handles + Processes + Files + Print + AllocGlobal + Copy + Send + 'static>(
-    rt: R,
-) -> Result<(), Fault> {
-    for row in BACKUPS {
-        let (make, watches) = maker_of(&rt, row)?;
-        play_over(rt, rt.alloc(), row, make)?;
-        print_watched(&rt, rt.alloc(), watches.as_slice())?;
-    }
-    Ok(())
+    let mut host = host_with(alloc, input, row.output, make)?;
+    run_named(rt, alloc, row.line, row.name, &mut host)?;
+    print_watched(&rt, alloc, watches.as_slice())
 }

@@ -19,18 +19,14 @@ mod replies;
 mod running;
 mod runs;
 mod starting;
+mod tables;
 
 use std::net::{TcpListener, TcpStream};
 use test_base::Fault;
 
 fn main(rt: HostRuntime) -> Result<(), Fault> {
     let _named: Option<(TcpListener, TcpStream)> = None;
-    playing::play_commands(rt)?;
-    playing::play_nodes(rt)?;
-    playing::play_leases(rt)?;
-    asking::play_asks(rt)?;
-    backing::play_backups(rt)?;
-    starting::play_runs(rt)?;
+    tables::play_tables(rt)?;
     failing::play_failing(rt)?;
     changed::play_changed(rt)?;
     drills::play_drills(&rt, rt.alloc())

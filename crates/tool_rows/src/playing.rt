@@ -1,10 +1,10 @@
 //! Each row is played: it is run, and what it comes to is printed.
 
-use crate::commands::{COMMANDS, CommandRow};
-use crate::leases::{LEASES, LeaseRow};
+use crate::commands::CommandRow;
+use crate::leases::LeaseRow;
 use crate::lines::{print_end, print_line, print_output, print_taken};
 use crate::making::{Links, empty_maker, maker_of, service_of};
-use crate::nodes::{NODES, NodeRow};
+use crate::nodes::NodeRow;
 use crate::running::{MemHost, host_over, run_line};
 use lf_base::{Handles, SliceSource, Watch};
 use node_mount::Maker;
@@ -75,7 +75,8 @@ fn play_over<R: Handles + Processes + Print + Copy + Send + 'static, M: Maker + 
     run_command(rt, alloc, row, &mut host)
 }
 
-fn play_command<R: Handles + Processes + Files + Print + AllocGlobal + Copy + Send + 'static>(
+/// A run of `apply` or `compact`, or of words that are no command.
+pub fn play_command<R: Handles + Processes + Files + Print + AllocGlobal + Copy + Send + 'static>(
     rt: R,
     row: &CommandRow,
 ) -> Result<(), Fault> {
@@ -84,37 +85,18 @@ fn play_command<R: Handles + Processes + Files + Print + AllocGlobal + Copy + Se
     play_over(rt, rt.alloc(), row, &input, make)
 }
 
-/// The runs of `apply` and `compact`, and of words that are no command.
-pub fn play_commands<R: Handles + Processes + Files + Print + AllocGlobal + Copy + Send + 'static>(
-    rt: R,
-) -> Result<(), Fault> {
-    for row in COMMANDS {
-        play_command(rt, row)?;
-    }
-    Ok(())
-}
-
-/// Runs a row's node, and prints how it ends.
-fn run_node<R: Handles + Processes + Print + Copy + Send + 'static, M: Maker>(
+/// A node or a lease service by this configuration: it is run, and how it ends is printed.
+fn play_configured<R: Handles + Processes + Print + Copy + Send + 'static, M: Maker + Drop>(
     rt: R,
     alloc: Global,
-    row: &NodeRow,
-    host: &mut MemHost<'_, M>,
-) -> Result<(), Fault> {
-    print!(&rt; "litefs mount, {}", row.name)?;
-    ends(rt, alloc, "litefs mount", host)
-}
-
-/// A row's node of these objects.
-fn play_made<R: Handles + Processes + Print + Copy + Send + 'static, M: Maker + Drop>(
-    rt: R,
-    alloc: Global,
-    row: &NodeRow,
+    line: &str,
+    name: &str,
+    config: SliceSource<'_>,
     make: M,
 ) -> Result<(), Fault> {
-    let config = SliceSource::new(row.config, one(alloc, row.read)?).unwrap();
     let mut host = host_over(alloc, b"left alone", config, make)?;
-    run_node(rt, alloc, row, &mut host)
+    print!(&rt; "{line}, {name}")?;
+    ends(rt, alloc, line, &mut host)
 }
 
 /// Prints what the two links of a node took.
@@ -123,50 +105,17 @@ fn print_links(rt: &impl Print, alloc: Global, links: &Links) -> Result<(), Faul
     print_taken(rt, alloc, "HTTP link", &links.http.bytes()?)
 }
 
-/// A row's node, over a disk with this file.
-fn play_node<R: Handles + Processes + Print + Copy + Send + 'static>(
+/// A run of `mount`, over a disk with this file.
+pub fn play_node<R: Handles + Processes + Print + Copy + Send + 'static>(
     rt: R,
     alloc: Global,
     row: &NodeRow,
     file: &[u8],
 ) -> Result<(), Fault> {
     let (make, links) = maker_of(alloc, row, file)?;
-    play_made(rt, alloc, row, make)?;
-    print_links(&rt, alloc, &links)
-}
-
-/// The runs of `mount`.
-pub fn play_nodes<R: Handles + Processes + Files + Print + AllocGlobal + Copy + Send + 'static>(
-    rt: R,
-) -> Result<(), Fault> {
-    let file = fs::read(&rt, "snapshot.ltx")?;
-    for row in NODES {
-        play_node(rt, rt.alloc(), row, &file)?;
-    }
-    Ok(())
-}
-
-/// Runs a row's lease service, and prints how it ends.
-fn run_service<R: Handles + Processes + Print + Copy + Send + 'static, M: Maker>(
-    rt: R,
-    alloc: Global,
-    row: &LeaseRow,
-    host: &mut MemHost<'_, M>,
-) -> Result<(), Fault> {
-    print!(&rt; "litefs lease, {}", row.name)?;
-    ends(rt, alloc, "litefs lease", host)
-}
-
-/// A row's lease service of these objects.
-fn play_served<R: Handles + Processes + Print + Copy + Send + 'static, M: Maker + Drop>(
-    rt: R,
-    alloc: Global,
-    row: &LeaseRow,
-    make: M,
-) -> Result<(), Fault> {
     let config = SliceSource::new(row.config, one(alloc, row.read)?).unwrap();
-    let mut host = host_over(alloc, b"left alone", config, make)?;
-    run_service(rt, alloc, row, &mut host)
+    play_configured(rt, alloc, "litefs mount", row.name, config, make)?;
+    print_links(&rt, alloc, &links)
 }
 
 /// Prints what each link took.
@@ -177,22 +126,14 @@ pub fn print_watched(rt: &impl Print, alloc: Global, watches: &[Watch]) -> Resul
     Ok(())
 }
 
-fn play_lease<R: Handles + Processes + Print + Copy + Send + 'static>(
+/// A run of `lease`.
+pub fn play_lease<R: Handles + Processes + Print + Copy + Send + 'static>(
     rt: R,
     alloc: Global,
     row: &LeaseRow,
 ) -> Result<(), Fault> {
     let (make, watches) = service_of(alloc, row)?;
-    play_served(rt, alloc, row, make)?;
+    let config = SliceSource::new(row.config, one(alloc, row.read)?).unwrap();
+    play_configured(rt, alloc, "litefs lease", row.name, config, make)?;
     print_watched(&rt, alloc, watches.as_slice())
-}
-
-/// The runs of `lease`.
-pub fn play_leases<R: Handles + Processes + Print + AllocGlobal + Copy + Send + 'static>(
-    rt: R,
-) -> Result<(), Fault> {
-    for row in LEASES {
-        play_lease(rt, rt.alloc(), row)?;
-    }
-    Ok(())
 }

@@ -59,13 +59,14 @@ pub fn starter(alloc: Global, gives: &[u8], failing: u64) -> Result<ListStarter,
     Ok(ListStarter::new(alloc, gives, one(alloc, failing)?)?)
 }
 
-/// A host over this input, this output and this maker, without a configuration.
+/// A host over this input, room for so many bytes of output and this maker, without a configuration.
 pub fn host_with<'a, M: Drop>(
     alloc: Global,
     input: SliceSource<'a>,
-    output: VecSink,
+    room: usize,
     make: M,
 ) -> Result<MemHost<'a, M>, Fault> {
+    let output = VecSink::new(alloc, room, Vec::new(alloc))?;
     let config = SliceSource::new(b"", Vec::new(alloc)).unwrap();
     host_failing(alloc, input, config, output, make)
 }

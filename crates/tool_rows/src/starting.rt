@@ -6,7 +6,7 @@ use crate::making::{dialing_maker, watched_link};
 use crate::playing::{ends, print_watched};
 use crate::replies::REPLIES;
 use crate::running::{MemHost, host_starting, starter};
-use crate::runs::{RUNS, RunRow};
+use crate::runs::RunRow;
 use lf_base::{Handles, MemLink, Watch};
 use node_mount::Maker;
 use run_child::Told;
@@ -61,7 +61,8 @@ fn run_row<R: Handles + Processes + Print + Copy + Send + 'static, M: Maker>(
     print_started(&rt, host.child.started())
 }
 
-fn play_run<R: Handles + Processes + Print + Copy + Send + 'static>(
+/// A run of `run`.
+pub fn play_run<R: Handles + Processes + Print + Copy + Send + 'static>(
     rt: R,
     alloc: Global,
     row: &RunRow,
@@ -72,14 +73,4 @@ fn play_run<R: Handles + Processes + Print + Copy + Send + 'static>(
     let mut host = host_starting(alloc, make, child)?;
     run_row(rt, alloc, row, &mut host)?;
     print_watched(&rt, alloc, watches.as_slice())
-}
-
-/// The runs of `run`.
-pub fn play_runs<R: Handles + Processes + Print + AllocGlobal + Copy + Send + 'static>(
-    rt: R,
-) -> Result<(), Fault> {
-    for row in RUNS {
-        play_run(rt, rt.alloc(), row)?;
-    }
-    Ok(())
 }

@@ -1,37 +1,14 @@
 //! One ask of the node.
-ghost use Rattle.std.specs.Prelude.{◌≡◌, ◌++◌, ◌∷◌, [], length, IfOk, OnErr};
+ghost use Rattle.std.specs.Prelude.{◌≡◌, length, IfOk, OnErr};
 ghost use Rattle.link_session.specs.Asking.{EndsAsking};
 ghost use Rattle.link_session.specs.Spending.{AsksFor};
-ghost use Rattle.link_session.specs.Stands.{asker, AsksOn, GoesOn};
-ghost use Rattle.turn_desk.specs.History.{entry};
+ghost use Rattle.link_session.specs.Stands.{asker, AsksOn};
 ghost use Rattle.txid_proxy.specs.Asking.{IsFileAsked};
 
 use fuse_msgs::{Op, Request};
 use lf_base::{Clock, SessionEnd};
-use link_session::{Steps, Turns};
+use link_session::{Steps, Turns, take_step};
 use node_core::{Answer, Ask};
-
-/// Asks, which is a turn.
-pub(crate) fn ask_once<S: Steps<Ask = Ask, Answer = Answer>>(
-    steps: &mut S,
-    ask: &Ask,
-    turns: &mut Turns,
-) -> Result<Answer, SessionEnd>
-    ensures asked { IfOk result (λ answer. S.entries steps.new ≡ S.entries steps.old ++ entry (S.number steps.old) ask.now answer ∷ []) }
-    ensures still { OnErr result (S.entries steps.new ≡ S.entries steps.old) }
-    ensures same { (S.of steps.new ≡ S.of steps.old) × (S.number steps.new ≡ S.number steps.old) × GoesOn S.Steps steps.old steps.new }
-    ensures spent { AsksFor result turns.old (length (S.entries steps.old)) turns.new (length (S.entries steps.new)) }
-    ensures cause { EndsAsking (S.is_worn steps.new) turns.new result }
-{
-    match turns.take() {
-        Ok(()) => {}
-        Err(_) => return Err(SessionEnd::Turns),
-    }
-    match steps.ask(ask) {
-        Ok(answer) => Ok(answer),
-        Err(_) => Err(SessionEnd::Worn),
-    }
-}
 
 /// Asks a request on the served files, at a moment that the clock gives.
 pub(crate) fn ask_file<S: Steps<Ask = Ask, Answer = Answer>, C: Clock>(
@@ -54,5 +31,5 @@ pub(crate) fn ask_file<S: Steps<Ask = Ask, Answer = Answer>, C: Clock>(
         op,
     };
     let now = clock.now_ms();
-    ask_once(steps, &Ask::File { now, request }, turns)
+    take_step(steps, &Ask::File { now, request }, turns)
 }

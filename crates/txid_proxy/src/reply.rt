@@ -6,10 +6,8 @@ ghost use Rattle.http_exchange.specs.Reading.{Gave};
 ghost use Rattle.txid_proxy.specs.Passing.{IsReply};
 ghost use Rattle.txid_proxy.specs.Dialing.{ReadsReply};
 
-use crate::ends::at_end;
 use crate::marking::is_reply;
-use crate::more::read_more;
-use http_exchange::Untold;
+use http_exchange::{Untold, at_end, read_more};
 use lf_base::{Bytes, Link};
 use link_session::{Piece, Turns};
 use std::alloc::Global;

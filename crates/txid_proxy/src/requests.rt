@@ -10,7 +10,7 @@ ghost use Rattle.txid_proxy.specs.Unread.{unread_by};
 
 use crate::asked::Asked;
 use crate::hearing::hear;
-use crate::more::read_more;
+use http_exchange::read_more;
 use lf_base::{Link, SessionEnd};
 use link_session::{FeedFault, Piece, Turns, Unread};
 use std::alloc::Global;

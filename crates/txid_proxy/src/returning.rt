@@ -8,11 +8,10 @@ ghost use Rattle.node_core.specs.declared.answer.Answer.TheVariants as answers;
 ghost use Rattle.txid_proxy.specs.Passing.{IsReply};
 ghost use Rattle.txid_proxy.specs.Session.{IsNowhere, Marks, Returns, post};
 
-use crate::asking::ask_once;
 use crate::replies::{give_back_as_it_is, give_back_marked, refuse};
 use http_exchange::Untold;
 use lf_base::{Bytes, Link, SessionEnd};
-use link_session::{Steps, Turns};
+use link_session::{Steps, Turns, take_step};
 use node_core::{Answer, Ask, Whereabouts};
 use std::alloc::Global;
 
@@ -63,7 +62,7 @@ fn mark<S: Steps<Ask = Ask, Answer = Answer>, L: Link>(
     ensures same { (S.of steps.new ≡ S.of steps.old) × (S.number steps.new ≡ S.number steps.old) × GoesOn S.Steps steps.old steps.new }
     ensures worn { result ≡ ends.Worn → S.is_worn steps.new }
 {
-    let answer = match ask_once(steps, &Ask::Where, turns) {
+    let answer = match take_step(steps, &Ask::Where, turns) {
         Ok(answer) => answer,
         Err(end) => return end,
     };

@@ -4,9 +4,8 @@ ghost use Rattle.http_exchange.specs.Exchange.{FaultsBy, LinksTell, TurnsBy};
 ghost use Rattle.txid_proxy.specs.Dialing.{Passes, PassesOnce};
 ghost use Rattle.txid_proxy.specs.Passing.{IsReply};
 
-use crate::ends::untold_by;
 use crate::reply::read_reply;
-use http_exchange::Untold;
+use http_exchange::{Untold, untold_by};
 use lf_base::{Bytes, Dialer, Handles, Link, Text};
 use link_session::{Turns, write_both};
 use std::alloc::Global;

@@ -9,7 +9,7 @@ use Rattle.file_view.specs.LogParts.{log_own_rows, begins_anew}
 use Rattle.file_view.specs.LogRules.{log_commit_rows}
 use Rattle.file_view.specs.Refusal.{first_refusal}
 use Rattle.file_view.specs.Served.{Served, log_contents}
-use Rattle.file_view.specs.declared.scene.Scene.{Scene}
+use Rattle.file_view.specs.declared.view.Scene.{Scene}
 use Rattle.file_view.proofs.LogWriteLemmas.{owner-refuses, own-refuses, own-passes}
 use Rattle.file_view.proofs.view.View.log_write_refusal.Goals as goal
 

@@ -1,6 +1,6 @@
 -- The files stand over the image, by what each request does and the rows that don't hold.
 use Rattle.std.proofs.Common.{sym, subst}
-use Rattle.file_view.specs.declared.scene.Scene.{Scene}
+use Rattle.file_view.specs.declared.view.Scene.{Scene}
 use Rattle.file_view.specs.Overlay.{StandsOver}
 use Rattle.file_view.proofs.AwaitLemmas.{awaits-after}
 use Rattle.file_view.proofs.NameLemmas.{name-after}

@@ -1,5 +1,5 @@
 use Rattle.std.proofs.Common.{◌≡◌, ◌∙◌, ap, inl, inr, refl, subst, sym}
-use Rattle.file_view.specs.declared.role.Role.{Role}
+use Rattle.file_view.specs.declared.view.Role.{Role}
 use Rattle.lf_disk.specs.History.{History}
 use Rattle.world_laws.specs.Node as laws
 use Rattle.std.specs.Prelude.{Some}

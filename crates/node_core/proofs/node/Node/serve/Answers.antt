@@ -4,9 +4,9 @@ use Rattle.file_view.specs.Steady.{CommitsNothing}
 use Rattle.lf_base.specs.declared.pos.Pos.{Pos}
 use Rattle.lf_sqlite_pages.specs.Apply.{apply}
 use Rattle.lf_sqlite_pages.specs.Image.{DatabaseImage}
-use Rattle.file_view.specs.declared.plan.Plan.{Plan}
-use Rattle.file_view.specs.declared.plan.Plan.TheVariants as plan
-use Rattle.file_view.specs.declared.role.Role.TheVariants as role
+use Rattle.file_view.specs.declared.requests.Plan.{Plan}
+use Rattle.file_view.specs.declared.requests.Plan.TheVariants as plan
+use Rattle.file_view.specs.declared.view.Role.TheVariants as role
 use Rattle.file_view.specs.Done.{IsDone}
 use Rattle.file_view.specs.Endings.{committed}
 use Rattle.file_view.specs.Overlay.{AwaitsOver, FitsImage, IsOverImage}

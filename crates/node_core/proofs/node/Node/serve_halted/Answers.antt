@@ -1,8 +1,8 @@
 use Rattle.std.proofs.Common.{◌≡◌, ◌∙◌, false, None, Some, Ok, Err, inr, refl, sym, ap, subst}
 use Rattle.byte_locks.specs.LockList.{IsLockList}
-use Rattle.file_view.specs.declared.plan.Plan.{Plan}
-use Rattle.file_view.specs.declared.plan.Plan.TheVariants as plan
-use Rattle.file_view.specs.declared.role.Role.TheVariants as role
+use Rattle.file_view.specs.declared.requests.Plan.{Plan}
+use Rattle.file_view.specs.declared.requests.Plan.TheVariants as plan
+use Rattle.file_view.specs.declared.view.Role.TheVariants as role
 use Rattle.file_view.specs.Done.{IsDone}
 use Rattle.file_view.specs.Overlay.{AwaitsOver, FitsImage, IsOverImage}
 use Rattle.file_view.specs.Served.{Served, waits}
