@@ -16,13 +16,10 @@ use file_view::Plan;
 use fuse_msgs::{BadMessage, Request, decode};
 use lf_base::{Name, NoMemory, Pos};
 use lf_sqlite_pages::{Change, Image, is_page_size};
-use page_checksum::page_sum;
+use page_checksum::{CHECKSUM_FLAG, page_sum};
 use std::alloc::Global;
 use std::mem;
 use test_base::Fault;
-
-/// Bit 63, which every sum carries.
-const FLAG: u64 = 1 << 63;
 
 /// The served files of a node, and how many transactions led to their image.
 #[derive(Drop)]
@@ -183,6 +180,6 @@ fn position_of(image: &Image, transactions: u64) -> Pos
     }
     Pos {
         txid: transactions,
-        sum: sum | FLAG,
+        sum: sum | CHECKSUM_FLAG,
     }
 }

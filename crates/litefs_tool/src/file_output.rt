@@ -11,11 +11,8 @@ ghost use Rattle.litefs_tool.specs.steps.Buffer.{AppendsAllBut};
 use crate::output::{BUFFER, add_bytes, write_whole};
 use lf_base::{Failed, Sink};
 use lf_sqlite_pages::PageWrite;
-use ltx_codec::{Ltx, header_bytes, parts_are_the_encoding};
+use ltx_codec::{Ltx, header_bytes, parts_are_the_encoding, sealed};
 use page_checksum::{FIRST_REGISTER, crc_feed};
-
-/// Bit 63, which every sum carries.
-const FLAG: u64 = 1 << 63;
 
 /// Writes a file, with flags and reserved bytes of 0. After a fault of the sink, it took a prefix of
 /// its bytes.
@@ -74,7 +71,7 @@ fn write_end<S: Sink>(
     ensures cause { CountsFaults (S.faults sink.old) (S.faults sink.new) result }
 {
     let end = end_bytes(post);
-    let sum = (crc_feed(register, &end) ^ u64::MAX) | FLAG;
+    let sum = sealed(crc_feed(register, &end));
     add_bytes(sink, &end, buffer)?;
     add_bytes(sink, &sum.to_be_bytes(), buffer)?;
     write_whole(sink, buffer.as_slice())

@@ -5,10 +5,8 @@ ghost use Rattle.ltx_codec.specs.Sums.{image_sum};
 use crate::fault::BackupFault;
 use lf_sqlite_pages::Image;
 use ltx_codec::{Ltx, sum_after};
+use page_checksum::CHECKSUM_FLAG;
 use std::alloc::Global;
-
-/// Bit 63, which every sum carries.
-const FLAG: u64 = 1 << 63;
 
 /// A database while files are applied to it: its pages, their sum, and the sum that the last file says.
 #[derive(Drop)]
@@ -32,8 +30,8 @@ impl Restored {
     {
         Restored {
             image: Image::empty(alloc),
-            sum: FLAG,
-            post: FLAG,
+            sum: CHECKSUM_FLAG,
+            post: CHECKSUM_FLAG,
         }
     }
 

@@ -16,29 +16,26 @@ use crate::header::Header;
 use crate::rules::is_flagged;
 use crate::seen::Seen;
 use lf_base::be64_at;
-use page_checksum::crc_feed;
-
-/// Bit 63, which every sum carries.
-const FLAG: u64 = 1 << 63;
+use page_checksum::{CHECKSUM_FLAG, crc_feed};
 
 /// The bytes of the number that ends the pages and of the two sums.
 const TRAILER: usize = 20;
 
 /// The checksum that a register stands for, with bit 63.
-fn sealed(register: u64) -> u64
+pub fn sealed(register: u64) -> u64
     ensures { result ≡ seal_of register }
 {
-    (register ^ u64::MAX) | FLAG
+    (register ^ u64::MAX) | CHECKSUM_FLAG
 }
 
 /// Whether the sum after the transactions breaks a rule, where this is the XOR of the pages' sums.
 fn is_wrong_post(header: &Header, sums: u64, post: u64) -> bool
     ensures { IsTrue result ↔ IsWrongPost header.now (flagged sums) post }
 {
-    if !is_flagged(post) || header.commit == 0 && post != FLAG {
+    if !is_flagged(post) || header.commit == 0 && post != CHECKSUM_FLAG {
         return true;
     }
-    header.min == 1 && post != sums | FLAG
+    header.min == 1 && post != sums | CHECKSUM_FLAG
 }
 
 /// Checks the sums that are there behind the four bytes that end the pages.

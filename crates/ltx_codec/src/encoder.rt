@@ -5,14 +5,12 @@ ghost use Rattle.ltx_codec.specs.Format.{header_encoding, no_meaning, page_encod
 ghost use Rattle.ltx_codec.specs.Encoding.{trailer_encoding};
 
 use crate::appending::{append_end, append_page};
+use crate::decoder_trailer::sealed;
 use crate::header::Header;
 use crate::layout::header_bytes;
 use lf_base::NoMemory;
 use page_checksum::{FIRST_REGISTER, crc_feed};
 use std::marker::Model;
-
-/// Bit 63, which every sum carries.
-const FLAG: u64 = 1 << 63;
 
 /// A file's encoding written part by part. It is seen as the register of the checksum after the parts
 /// so far. What is appended, one part after another, is the encoding of a file (`parts_are_the_encoding`)
@@ -83,7 +81,7 @@ impl Encoder {
         let start = out.len();
         append_end(post, out)?;
         let (_, written) = out.as_slice().split_at(start);
-        let sum = (crc_feed(self.register, written) ^ u64::MAX) | FLAG;
+        let sum = sealed(crc_feed(self.register, written));
         out.extend_from_slice(&sum.to_be_bytes())?;
         Ok(())
     }

@@ -11,11 +11,8 @@ ghost use Rattle.ltx_codec.specs.steps.ChangedSum.{joined_over, standing_sum as 
 use crate::file::Ltx;
 use lf_base::NoMemory;
 use lf_sqlite_pages::{Change, Image, PageWrite, lock_page};
-use page_checksum::page_sum;
+use page_checksum::{CHECKSUM_FLAG, page_sum};
 use std::alloc::Global;
-
-/// Bit 63, which every sum carries.
-const FLAG: u64 = 1 << 63;
 
 /// The sum of a database of these pages, each with its number.
 pub fn sum_of_writes(pages: &[PageWrite]) -> u64
@@ -25,7 +22,7 @@ pub fn sum_of_writes(pages: &[PageWrite]) -> u64
     for w in pages {
         sum ^= page_sum(w.number, w.bytes.as_slice());
     }
-    sum | FLAG
+    sum | CHECKSUM_FLAG
 }
 
 /// The sum of an image after a file that fits it. `sum` is that of the image, bit 63 aside.
@@ -74,7 +71,7 @@ fn resized_sum(sum: u64, image: &Image, zeros: &[u8], change: &Change) -> u64
     let size = change.page_size();
     let (before, after) = (image.commit(), change.commit());
     let resized = sum_between(image, size, zeros, before.min(after), before.max(after));
-    (sum ^ resized ^ rewriting(image, size, zeros, change)) | FLAG
+    (sum ^ resized ^ rewriting(image, size, zeros, change)) | CHECKSUM_FLAG
 }
 
 /// The sum of the page at `number`, or of a page of zeros where none stands there; 0 for the lock

@@ -29,6 +29,7 @@ mod whole_pages;
 mod writing;
 
 pub use decoder::Decoder;
+pub use decoder_trailer::sealed;
 pub use encoder::Encoder;
 pub use fault::LtxFault;
 pub use file::Ltx;

@@ -18,7 +18,7 @@ mod tables;
 mod words;
 
 pub use crc::{FIRST_REGISTER, crc_feed, crc64, pieces_join};
-pub use sums::page_sum;
+pub use sums::{CHECKSUM_FLAG, page_sum};
 pub use table::Sums;
 
 #[cfg(test)]

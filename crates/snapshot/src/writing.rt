@@ -18,11 +18,9 @@ use crate::reading::read_page;
 use lf_base::{Failed, Sink};
 use lf_disk::Disk;
 use lf_sqlite_pages::lock_page;
+use ltx_codec::sealed;
 use page_checksum::crc_feed;
 use txn_log::StoreFault;
-
-/// Bit 63, which every sum carries.
-const FLAG: u64 = 1 << 63;
 
 /// Writes some bytes, and answers the register after them.
 pub fn write_part<K: Sink>(sink: &mut K, bytes: &[u8], register: u64) -> Result<u64, Failed>
@@ -117,7 +115,7 @@ pub fn write_end<K: Sink>(sink: &mut K, post: u64, register: u64) -> Result<(), 
     ensures cause { CountsFaults (K.faults sink.old) (K.faults sink.new) result }
 {
     let register = write_part(sink, &end_bytes(post), register)?;
-    let sum = (register ^ u64::MAX) | FLAG;
+    let sum = sealed(register);
     write_whole(sink, &sum.to_be_bytes())
 }
 

@@ -14,7 +14,7 @@ use crate::staging::clear;
 use lf_base::Failed;
 use lf_disk::{Disk, FileName, stage};
 use lf_sqlite_pages::Change;
-use ltx_codec::{Ltx, encode, header_bytes, trailer_bytes};
+use ltx_codec::{Ltx, encode, header_bytes, sealed, trailer_bytes};
 use page_checksum::{FIRST_REGISTER, crc_feed};
 use std::alloc::Global;
 
@@ -54,9 +54,6 @@ pub fn stage_file<D: Disk>(alloc: Global, disk: &mut D, file: &Ltx) -> Result<()
         None => stage_parts(alloc, disk, file),
     }
 }
-
-/// Bit 63, which every sum carries.
-const FLAG: u64 = 1 << 63;
 
 /// Gathers a page behind those before.
 fn gather_page<D: Disk>(
@@ -124,7 +121,7 @@ fn finish<D: Disk>(disk: &mut D, gathering: &mut Gathering, post: u64) -> Result
     let sum = post.to_be_bytes();
     gather(disk, gathering, &[0; 4])?;
     let register = crc_feed(gathering.register, &sum);
-    let file_sum = (register ^ u64::MAX) | FLAG;
+    let file_sum = sealed(register);
     gather(disk, gathering, &trailer_bytes(post, file_sum))?;
     flush(disk, gathering)?;
     disk.sync(FileName::Staged)?;

@@ -22,7 +22,7 @@ use lf_base::Failed;
 use lf_disk::Disk;
 use lf_sqlite_pages::lock_page;
 use ltx_codec::Header;
-use page_checksum::{Sums, page_sum};
+use page_checksum::{CHECKSUM_FLAG, Sums, page_sum};
 
 impl Receiving {
     /// Stages the next page.
@@ -154,12 +154,9 @@ impl Receiving {
             → self.now.header.page_size ≡ file.change.page_size → self.now.passed ≡ file.change.commit
             → result ≡ sum_behind count sums file }
     {
-        self.total | FLAG
+        self.total | CHECKSUM_FLAG
     }
 }
-
-/// Bit 63, which every sum carries.
-const FLAG: u64 = 1 << 63;
 
 /// Begins to stage a file with this header.
 pub fn begin_receiving<D: Disk>(disk: &mut D, header: &Header) -> Result<Receiving, Failed>

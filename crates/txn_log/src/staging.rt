@@ -14,7 +14,7 @@ ghost use Rattle.txn_log.specs.Staging.{HoldsSoFar, front_encoding, IsStaging};
 
 use lf_base::Failed;
 use lf_disk::{Disk, FileName};
-use ltx_codec::{Header, header_bytes, trailer_bytes};
+use ltx_codec::{Header, header_bytes, sealed, trailer_bytes};
 use page_checksum::{FIRST_REGISTER, crc_feed};
 
 /// How far a file was staged.
@@ -127,11 +127,8 @@ pub fn seal<D: Disk>(disk: &mut D, staging: &mut Staging, post: u64) -> Result<(
     let sum = post.to_be_bytes();
     append(disk, staging, &[0; 4])?;
     let register = crc_feed(staging.register, &sum);
-    let file_sum = (register ^ u64::MAX) | FLAG;
+    let file_sum = sealed(register);
     append(disk, staging, &trailer_bytes(post, file_sum))?;
     disk.sync(FileName::Staged)?;
     Ok(())
 }
-
-/// Bit 63, which every sum carries.
-const FLAG: u64 = 1 << 63;

@@ -7,11 +7,8 @@ ghost use Rattle.ltx_codec.specs.steps.ChangedSum.{joined_over};
 ghost use Rattle.txn_log.specs.Draft.{AreSums, sum_after, sums_after};
 
 use lf_sqlite_pages::{Change, PageWrite, lock_page};
-use page_checksum::{Sums, page_sum};
+use page_checksum::{CHECKSUM_FLAG, Sums, page_sum};
 use std::alloc::Global;
-
-/// Bit 63, which every sum carries.
-const FLAG: u64 = 1 << 63;
 
 /// The sums of the first `count` pages, taken together, where the page size is this one: its lock
 /// page has no sum.
@@ -99,7 +96,7 @@ pub fn total_behind(sums: &Sums, change: &Change, count: u32) -> u64
     for page in stay..change.commit() {
         total ^= sum_past(change, zeros, count, page + 1);
     }
-    total | FLAG
+    total | CHECKSUM_FLAG
 }
 
 /// The sum of the database after a change, of whose pages these sums are known.
@@ -107,7 +104,7 @@ pub fn total_after(sums: &Sums, change: &Change, known: &[u64]) -> u64
     requires { AreSums known.now change.now.pages }
     ensures { result ≡ flagged (joined (sums_after sums.now.sums change.now)) }
 {
-    total_to(sums, change, known, change.commit()) | FLAG
+    total_to(sums, change, known, change.commit()) | CHECKSUM_FLAG
 }
 
 /// Gives the table so many pages, where the page size is this one: its lock page has no sum.

@@ -27,7 +27,7 @@ returns-clause-whole g c =
     let start = HasAdded-start (g.S.Sink.taken c.args.sink.now) c.args.buffer.now.items (end ++ sum) in
     let ended = HasAdded-more _ _ _ _ end sum _ _ start (rw c.end_bytes-end.ensures at c.in_ok-add_bytes.ensures.whole) in
     let sums : c.to_be_bytes.result ≡ sum =
-    c.to_be_bytes.ensures ∙ ap (λ r. to_be_bytes w64 (sealed r)) (c.crc_feed.ensures ∙ ap (λ (l : List ℕ). after_bytes c.args.register l) c.end_bytes-end.ensures)
+    c.to_be_bytes.ensures ∙ ap (to_be_bytes w64) c.sealed-sum.ensures ∙ ap (λ r. to_be_bytes w64 (sealed r)) (c.crc_feed.ensures ∙ ap (λ (l : List ℕ). after_bytes c.args.register l) c.end_bytes-end.ensures)
     in
     let all = HasAdded-last _ _ _ _ sum _ _ ended (rw sums at c.in_ok-add_bytes-2.ensures.whole) in
     let held = rw c.as_slice.ensures.value at c.write_whole.ensures.whole in
@@ -40,7 +40,7 @@ returns-clause-prefix g c =
     let start = HasAdded-start (g.S.Sink.taken c.args.sink.now) c.args.buffer.now.items (end ++ sum) in
     let ended = HasAdded-more _ _ _ _ end sum _ _ start (rw c.end_bytes-end.ensures at c.in_ok-add_bytes.ensures.whole) in
     let sums : c.to_be_bytes.result ≡ sum =
-    c.to_be_bytes.ensures ∙ ap (λ r. to_be_bytes w64 (sealed r)) (c.crc_feed.ensures ∙ ap (λ (l : List ℕ). after_bytes c.args.register l) c.end_bytes-end.ensures)
+    c.to_be_bytes.ensures ∙ ap (to_be_bytes w64) c.sealed-sum.ensures ∙ ap (λ r. to_be_bytes w64 (sealed r)) (c.crc_feed.ensures ∙ ap (λ (l : List ℕ). after_bytes c.args.register l) c.end_bytes-end.ensures)
     in
     let all = HasAdded-last _ _ _ _ sum _ _ ended (rw sums at c.in_ok-add_bytes-2.ensures.whole) in
     let held = rw c.as_slice.ensures.value at c.write_whole.ensures.prefix in

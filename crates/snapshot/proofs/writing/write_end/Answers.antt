@@ -17,7 +17,7 @@ returns-clause-whole g c =
     let end : List ℕ = end_encoding c.args.post in
     let sum : List ℕ = to_be_bytes w64 (sealed (after_bytes c.args.register end)) in
     let sums : c.to_be_bytes.result ≡ sum =
-    c.to_be_bytes.ensures ∙ ap (λ r. to_be_bytes w64 (sealed r)) (c.in_ok-register.ensures.register ∙ ap (λ (l : List ℕ). after_bytes c.args.register l) c.end_bytes.ensures)
+    c.to_be_bytes.ensures ∙ ap (to_be_bytes w64) c.sealed-sum.ensures ∙ ap (λ r. to_be_bytes w64 (sealed r)) (c.in_ok-register.ensures.register ∙ ap (λ (l : List ℕ). after_bytes c.args.register l) c.end_bytes.ensures)
     in
     map_on_ok c.write_whole.result _ _ (λ appends. Appends-trans _ _ _ end sum (rw c.end_bytes.ensures at c.in_ok-register.ensures.whole) appends) (rw sums at c.write_whole.ensures.whole)
 
@@ -26,6 +26,6 @@ returns-clause-prefix g c =
     let end : List ℕ = end_encoding c.args.post in
     let sum : List ℕ = to_be_bytes w64 (sealed (after_bytes c.args.register end)) in
     let sums : c.to_be_bytes.result ≡ sum =
-    c.to_be_bytes.ensures ∙ ap (λ r. to_be_bytes w64 (sealed r)) (c.in_ok-register.ensures.register ∙ ap (λ (l : List ℕ). after_bytes c.args.register l) c.end_bytes.ensures)
+    c.to_be_bytes.ensures ∙ ap (to_be_bytes w64) c.sealed-sum.ensures ∙ ap (λ r. to_be_bytes w64 (sealed r)) (c.in_ok-register.ensures.register ∙ ap (λ (l : List ℕ). after_bytes c.args.register l) c.end_bytes.ensures)
     in
     map_on_err c.write_whole.result _ _ (λ prefix. AppendsPrefix-after _ _ _ end sum _ refl (rw c.end_bytes.ensures at c.in_ok-register.ensures.whole) prefix) (rw sums at c.write_whole.ensures.prefix)

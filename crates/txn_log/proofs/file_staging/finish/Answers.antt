@@ -1,5 +1,4 @@
 use Rattle.std.proofs.Common.{◌≡◌, ◌∙◌, ◌++◌, List, ℕ, length, refl, ap, subst}
-use Rattle.std.specs.Prelude.{bit_or, bit_xor}
 use Rattle.std.specs.Int.{w32, w64, to_be_bytes}
 use Rattle.lf_disk.specs.declared.name.FileName.TheVariants.{Staged}
 use Rattle.lf_disk.specs.Folder.{SameBut}
@@ -65,8 +64,8 @@ returns-clause-staged g c honest before file register same so_far =
     let start : ℕ = c.args.gathering.now.register in
     let staging : Staging = record { len = length front; register = start } in
     let is_staging : IsStaging staging file.header file.change.pages = record { written = record { register_is = register; encoding_is = refl }; len = refl } in
-    let sum : bit_or (bit_xor c.crc_feed-register.result 0xFFFF_FFFF_FFFF_FFFF) 0x8000_0000_0000_0000 ≡ sealed (after_bytes (after_bytes start (to_be_bytes w32 0)) (to_be_bytes w64 c.args.post)) =
-    ap sealed (c.crc_feed-register.ensures ∙ ap (λ (r : ℕ). after_bytes r c.to_be_bytes-sum.result) c.in_ok-gather.ensures.register ∙ ap (after_bytes (after_bytes start (to_be_bytes w32 0))) c.to_be_bytes-sum.ensures) in
+    let sum : c.sealed-file_sum.result ≡ sealed (after_bytes (after_bytes start (to_be_bytes w32 0)) (to_be_bytes w64 c.args.post)) =
+    c.sealed-file_sum.ensures ∙ ap sealed (c.crc_feed-register.ensures ∙ ap (λ (r : ℕ). after_bytes r c.to_be_bytes-sum.result) c.in_ok-gather.ensures.register ∙ ap (after_bytes (after_bytes start (to_be_bytes w32 0))) c.to_be_bytes-sum.ensures) in
     let encoding = sealed-encoding staging file is_staging c.args.post same c.trailer_bytes.result _ c.trailer_bytes.ensures sum in
     subst (λ (t : List ℕ). IsStaged before t (g.D.Disk.history c.sync.new.self)) encoding
     (syncs before _ _ (g.D.Disk.history c.sync.new.self) whole (long-enough (front ++ to_be_bytes w32 0) c.trailer_bytes.result (ap length c.trailer_bytes.ensures)) (c.in_ok-sync.ensures.done (c.flush.ensures.honest ∙ yet)))

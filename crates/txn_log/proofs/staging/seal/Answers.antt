@@ -1,5 +1,4 @@
 use Rattle.std.proofs.Common.{◌≡◌, ◌∙◌, ◌++◌, List, ℕ, length, ap, subst}
-use Rattle.std.specs.Prelude.{bit_or, bit_xor}
 use Rattle.std.specs.Int.{w32, w64, to_be_bytes}
 use Rattle.lf_disk.specs.declared.name.FileName.TheVariants.{Staged}
 use Rattle.lf_disk.specs.Folder.{SameBut}
@@ -53,8 +52,8 @@ returns-clause-staged g c honest before file staging same so_far =
     let held = c.in_ok-append.ensures.staged honest before front staging.len so_far in
     let long = behind_long front _ c.args.staging.now.len c.append.new.staging.len staging.len c.in_ok-append.ensures.counts.0 in
     let whole = c.in_ok-append-2.ensures.staged still before _ long held in
-    let sum : bit_or (bit_xor c.crc_feed-register.result 0xFFFF_FFFF_FFFF_FFFF) 0x8000_0000_0000_0000 ≡ sealed (after_bytes (after_bytes c.args.staging.now.register (to_be_bytes w32 0)) (to_be_bytes w64 c.args.post)) =
-    ap sealed (c.crc_feed-register.ensures ∙ ap (λ (r : ℕ). after_bytes r c.to_be_bytes-sum.result) c.in_ok-append.ensures.counts.1 ∙ ap (after_bytes (after_bytes c.args.staging.now.register (to_be_bytes w32 0))) c.to_be_bytes-sum.ensures) in
+    let sum : c.sealed-file_sum.result ≡ sealed (after_bytes (after_bytes c.args.staging.now.register (to_be_bytes w32 0)) (to_be_bytes w64 c.args.post)) =
+    c.sealed-file_sum.ensures ∙ ap sealed (c.crc_feed-register.ensures ∙ ap (λ (r : ℕ). after_bytes r c.to_be_bytes-sum.result) c.in_ok-append.ensures.counts.1 ∙ ap (after_bytes (after_bytes c.args.staging.now.register (to_be_bytes w32 0))) c.to_be_bytes-sum.ensures) in
     let encoding = sealed-encoding c.args.staging.now file staging c.args.post same c.trailer_bytes.result _ c.trailer_bytes.ensures sum in
     subst (λ (t : List ℕ). IsStaged before t (g.D.Disk.history c.sync.new.self)) encoding
     (syncs before _ _ (g.D.Disk.history c.sync.new.self) whole (long-enough (front ++ to_be_bytes w32 0) c.trailer_bytes.result (ap length c.trailer_bytes.ensures)) (c.in_ok-sync.ensures.done yet))
