@@ -90,7 +90,8 @@ pub record AsksWhatWasSent (stream_old stream_new old new : List NodeEntry) : Ty
 
 -- for every stream, and every follower at the other end of its link
 abbrev pub FollowersAskWhatWasSent : Type 0
-FollowersAskWhatWasSent = (who other : Asker) (name here : List ℕ) (from : Whereabouts) (unknown : Bool) (budget turns : ℕ) (stream_old stream_new old new : Stand NodeEntry) (end : SessionEnd) (how : FollowEnd)
+FollowersAskWhatWasSent = (who other : Asker) (name here : List ℕ) (from : Whereabouts) (unknown : Bool) (budget turns : ℕ)
+    (stream_old stream_new old new : Stand NodeEntry) (end : SessionEnd) (how : FollowEnd)
     → IsName name → IsName here → Streams who name from stream_old stream_new turns end → Follows other here unknown budget old new how
     → Carries stream_old.place.taken stream_new.place.taken old.place.text → AreShort stream_new.place.entries
     → AsksWhatWasSent stream_old.place.entries stream_new.place.entries old.place.entries new.place.entries

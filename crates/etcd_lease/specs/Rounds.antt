@@ -48,7 +48,8 @@ Follows next (Ok a) old new heard = next a old new heard
 Follows next (Err why) old new heard = (new ≡ old) × (heard ≡ Err why)
 
 -- ONE CALL AND THEN WHAT FOLLOWS
-pub record Then {A B : Type 0} (first : Place → Place → Result A Unlearned → Type 0) (next : A → Place → Place → Result B Unlearned → Type 0) (old new : Place) (heard : Result B Unlearned) : Type 0 where
+pub record Then {A B : Type 0} (first : Place → Place → Result A Unlearned → Type 0) (next : A → Place → Place → Result B Unlearned → Type 0)
+    (old new : Place) (heard : Result B Unlearned) : Type 0 where
   pub mid : Place
   pub came : Result A Unlearned
   pub did : first old mid came

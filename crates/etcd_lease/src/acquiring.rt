@@ -81,7 +81,8 @@ impl<C: Clock, N: Noting> EtcdService<C, N> {
         turns: &mut Turns,
     ) -> Result<Learned, Unlearned>
         ensures nothing { IfOk result (λ learned. learned ≡ told.Nothing) }
-        ensures takes { Then (Posts (LinksTell T.L.given T.L.taken) self.old.settings call.Range) (TakesBehind (C.may_give self.old.clock) (LinksTell T.L.given T.L.taken) self.old.settings lease.lease lease.ttl)
+        ensures takes { Then (Posts (LinksTell T.L.given T.L.taken) self.old.settings call.Range)
+            (TakesBehind (C.may_give self.old.clock) (LinksTell T.L.given T.L.taken) self.old.settings lease.lease lease.ttl)
             (place self.old.endpoints.items self.old.held (dial_stand (T.dials dialer.old) (T.faults dialer.old)))
             (place self.new.endpoints.items self.new.held (dial_stand (T.dials dialer.new) (T.faults dialer.new))) result }
         ensures same { (self.new.settings ≡ self.old.settings) × (C.may_give self.new.clock ≡ C.may_give self.old.clock) }

@@ -28,7 +28,8 @@ pub fn serve_message<S: Steps<Ask = Ask, Answer = Answer>, L: Link, C: Clock, P:
     message: &[u8],
     text: &mut Vec<u8>,
 ) -> Result<(), SessionEnd>
-    ensures end { EndsMessage (asker_of S.Steps C.Clock session.old steps.old) message.now (stand_of S.Steps L.Link session.old steps.old) (stand_of S.Steps L.Link session.new steps.new) session.new.turns result }
+    ensures end { EndsMessage (asker_of S.Steps C.Clock session.old steps.old) message.now (stand_of S.Steps L.Link session.old steps.old)
+        (stand_of S.Steps L.Link session.new steps.new) session.new.turns result }
     ensures left { Keeps (L.left session.old.link.now) (L.left session.new.link.now) }
     ensures same { SessionGoesOn S.Steps C.Clock session.old session.new steps.old steps.new }
     ensures spent { Spends session.old.turns (stand_of S.Steps L.Link session.old steps.old) session.new.turns (stand_of S.Steps L.Link session.new steps.new) result }
@@ -66,7 +67,8 @@ fn serve_request<S: Steps<Ask = Ask, Answer = Answer>, L: Link, C: Clock, P: Pau
     text: &mut Vec<u8>,
 ) -> Result<(), SessionEnd>
     requires { IsMessage message.now request }
-    ensures end { EndsMessage (asker_of S.Steps C.Clock session.old steps.old) message.now (stand_of S.Steps L.Link session.old steps.old) (stand_of S.Steps L.Link session.new steps.new) session.new.turns result }
+    ensures end { EndsMessage (asker_of S.Steps C.Clock session.old steps.old) message.now (stand_of S.Steps L.Link session.old steps.old)
+        (stand_of S.Steps L.Link session.new steps.new) session.new.turns result }
     ensures left { Keeps (L.left session.old.link.now) (L.left session.new.link.now) }
     ensures same { SessionGoesOn S.Steps C.Clock session.old session.new steps.old steps.new }
     ensures spent { Spends session.old.turns (stand_of S.Steps L.Link session.old steps.old) session.new.turns (stand_of S.Steps L.Link session.new steps.new) result }

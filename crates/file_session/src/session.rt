@@ -74,7 +74,8 @@ pub fn serve_link<S: Steps<Ask = Ask, Answer = Answer>, L: Link, C: Clock, P: Pa
     session: &mut Session<L, C, P>,
     steps: &mut S,
 ) -> SessionEnd
-    ensures session { IsSession (asker_of S.Steps C.Clock session.old steps.old) session.old.turns (stand_of S.Steps L.Link session.old steps.old) (stand_of S.Steps L.Link session.new steps.new) result }
+    ensures session { IsSession (asker_of S.Steps C.Clock session.old steps.old) session.old.turns (stand_of S.Steps L.Link session.old steps.old)
+        (stand_of S.Steps L.Link session.new steps.new) result }
     ensures same { SessionGoesOn S.Steps C.Clock session.old session.new steps.old steps.new }
     ensures worn { result ≡ ends.Worn → S.is_worn steps.new }
 {
@@ -103,7 +104,8 @@ fn converse<S: Steps<Ask = Ask, Answer = Answer>, L: Link, C: Clock, P: Pause>(
     session: &mut Session<L, C, P>,
     steps: &mut S,
 ) -> SessionEnd
-    ensures conversation { Conversation (asker_of S.Steps C.Clock session.old steps.old) session.old.turns (stand_of S.Steps L.Link session.old steps.old) (stand_of S.Steps L.Link session.new steps.new) result }
+    ensures conversation { Conversation (asker_of S.Steps C.Clock session.old steps.old) session.old.turns
+        (stand_of S.Steps L.Link session.old steps.old) (stand_of S.Steps L.Link session.new steps.new) result }
     ensures same { SessionGoesOn S.Steps C.Clock session.old session.new steps.old steps.new }
     ensures worn { result ≡ ends.Worn → S.is_worn steps.new }
 {

@@ -26,7 +26,8 @@ pub fn exchange<R: Handles, T: Dialer>(
     turns: &mut Turns,
 ) -> Result<Told, Untold>
     requires { IsNamed request.call.now }
-    ensures dial { DialsOnce (record { text = request_text request.entry.call.now request.entry.host.now request.entry.front.now request.entry.back.now; terms = record { sized = request.entry.sized; limit = limit } }) (LinksTell T.L.given T.L.taken) (T.dials dialer.old) (T.dials dialer.new) result }
+    ensures dial { DialsOnce (record { text = request_text request.entry.call.now request.entry.host.now request.entry.front.now request.entry.back.now; terms = record { sized = request.entry.sized; limit = limit } })
+        (LinksTell T.L.given T.L.taken) (T.dials dialer.old) (T.dials dialer.new) result }
     ensures fault { FaultsBy (T.faults dialer.old) (T.faults dialer.new) result }
     ensures turns { TurnsBy turns.old turns.new result }
 {
@@ -48,7 +49,8 @@ fn talk<L: Link>(
     turns: &mut Turns,
 ) -> Result<Told, Untold>
     requires { IsNamed request.call.now }
-    ensures talks { Talks (record { text = request_text request.entry.call.now request.entry.host.now request.entry.front.now request.entry.back.now; terms = record { sized = request.entry.sized; limit = limit } }) (L.given link.old) (L.given link.new) (L.taken link.old) (L.taken link.new) (L.left link.new) result }
+    ensures talks { Talks (record { text = request_text request.entry.call.now request.entry.host.now request.entry.front.now request.entry.back.now; terms = record { sized = request.entry.sized; limit = limit } })
+        (L.given link.old) (L.given link.new) (L.taken link.old) (L.taken link.new) (L.left link.new) result }
     ensures fault { FaultsBy (L.faults link.old) (L.faults link.new) result }
     ensures turns { TurnsBy turns.old turns.new result }
 {

@@ -22,7 +22,8 @@ pub fn exchange_text<R: Handles, T: Dialer>(
     letter: Letter<'_>,
     turns: &mut Turns,
 ) -> Result<Told, Untold>
-    ensures dial { DialsOnce (record { text = letter_text letter.entry.method.now letter.entry.path.now address.now letter.entry.body.now; terms = record { sized = false; limit = letter.entry.limit } }) (LinksTell T.L.given T.L.taken) (T.dials dialer.old) (T.dials dialer.new) result }
+    ensures dial { DialsOnce (record { text = letter_text letter.entry.method.now letter.entry.path.now address.now letter.entry.body.now; terms = record { sized = false; limit = letter.entry.limit } })
+        (LinksTell T.L.given T.L.taken) (T.dials dialer.old) (T.dials dialer.new) result }
     ensures fault { FaultsBy (T.faults dialer.old) (T.faults dialer.new) result }
     ensures turns { TurnsBy turns.old turns.new result }
 {
@@ -43,7 +44,8 @@ fn post<L: Link>(
     letter: Letter<'_>,
     turns: &mut Turns,
 ) -> Result<Told, Untold>
-    ensures talks { Talks (record { text = letter_text letter.entry.method.now letter.entry.path.now host.now letter.entry.body.now; terms = record { sized = false; limit = letter.entry.limit } }) (L.given link.old) (L.given link.new) (L.taken link.old) (L.taken link.new) (L.left link.new) result }
+    ensures talks { Talks (record { text = letter_text letter.entry.method.now letter.entry.path.now host.now letter.entry.body.now; terms = record { sized = false; limit = letter.entry.limit } })
+        (L.given link.old) (L.given link.new) (L.taken link.old) (L.taken link.new) (L.left link.new) result }
     ensures fault { FaultsBy (L.faults link.old) (L.faults link.new) result }
     ensures turns { TurnsBy turns.old turns.new result }
 {

@@ -82,7 +82,8 @@ impl<L, C: Clock, P: Pause> Session<'_, '_, '_, L, C, P> {
         ensures answered { IfOk result (λ answer. AskedUntil
             (record { may = C.may_give self.old.clock.now; at_moment = T.at_moment; again = T.again patience.now; caller = S.number steps.old }) ask (S.entries steps.old)
             (S.entries steps.new) answer) }
-        ensures vain { OnErr result (AskedInVain (record { may = C.may_give self.old.clock.now; at_moment = T.at_moment; again = T.again patience.now; caller = S.number steps.old }) ask (S.entries steps.old) (S.entries steps.new)) }
+        ensures vain { OnErr result (AskedInVain (record { may = C.may_give self.old.clock.now; at_moment = T.at_moment; again = T.again patience.now; caller = S.number steps.old }) ask
+            (S.entries steps.old) (S.entries steps.new)) }
         ensures same { SessionGoesOn S.Steps C.Clock self.old self.new steps.old steps.new }
         ensures link { self.new.link ≡ self.old.link }
         ensures spent { AsksFor result self.old.turns (length (S.entries steps.old)) self.new.turns (length (S.entries steps.new)) }
@@ -121,7 +122,8 @@ pub fn ask_until<
     ensures answered { IfOk result (λ answer. AskedUntil
         (record { may = C.may_give clock.old; at_moment = T.at_moment; again = T.again patience.now; caller = S.number steps.old }) ask (S.entries steps.old)
         (S.entries steps.new) answer) }
-    ensures vain { OnErr result (AskedInVain (record { may = C.may_give clock.old; at_moment = T.at_moment; again = T.again patience.now; caller = S.number steps.old }) ask (S.entries steps.old) (S.entries steps.new)) }
+    ensures vain { OnErr result (AskedInVain (record { may = C.may_give clock.old; at_moment = T.at_moment; again = T.again patience.now; caller = S.number steps.old }) ask
+        (S.entries steps.old) (S.entries steps.new)) }
     ensures gives { IfOk result (IsGiven (record { may = C.may_give clock.old; at_moment = T.at_moment; again = T.again patience.now; caller = S.number steps.old }) S.gives ask) }
     ensures same { (S.of steps.new ≡ S.of steps.old) × (S.number steps.new ≡ S.number steps.old) × GoesOn S.Steps steps.old steps.new × (C.may_give clock.new ≡ C.may_give clock.old) }
     ensures spent { AsksFor result turns.old (length (S.entries steps.old)) turns.new (length (S.entries steps.new)) }

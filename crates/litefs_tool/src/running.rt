@@ -28,7 +28,8 @@ pub(crate) fn run_task<R: Handles + Processes, M: Maker, S: ReadyStarter>(
     make: &mut M,
     child: &mut S,
 ) -> Result<(), Failure>
-    ensures { GoesRunning (ChildBack M.Line.Link M.Dial.dials (M.back make.old) (M.back make.new) (M.counts make.old) (M.counts make.new) (book S.Starter child.old) (book S.Starter child.new) task) result }
+    ensures { GoesRunning (ChildBack M.Line.Link M.Dial.dials (M.back make.old) (M.back make.new) (M.counts make.old) (M.counts make.new)
+        (book S.Starter child.old) (book S.Starter child.new) task) result }
 {
     match run_under(rt, alloc, &task, make, child) {
         Ok(end) => Err(Failure::Child(end)),

@@ -110,7 +110,8 @@ fn prepare_lent<'a, K: Before, D: Disk>(
     ensures done { IfOk planned.new (λ plan. IsDone (told (history_of store.old) (fields_of store.old)) view.old
         (scene_of asked.entry.caller asked.entry.role store.old.page_size store.old.commit store.old.broken) asked.entry.request.now plan view.new) }
     ensures allowed { OnOk planned.new (IsAllowed (rows_of view.old (scene_of asked.entry.caller asked.entry.role store.old.page_size store.old.commit store.old.broken) asked.entry.request.now)) }
-    ensures cause { IfErr planned.new (RefusesBy (needs_of view.old asked.entry.request.now) (rows_of view.old (scene_of asked.entry.caller asked.entry.role store.old.page_size store.old.commit store.old.broken) asked.entry.request.now)
+    ensures cause { IfErr planned.new (RefusesBy (needs_of view.old asked.entry.request.now)
+        (rows_of view.old (scene_of asked.entry.caller asked.entry.role store.old.page_size store.old.commit store.old.broken) asked.entry.request.now)
         K.fields (fields_of result.now)) }
     ensures err { OnErr planned.new (view.new ≡ view.old) }
     ensures name { view.new.name ≡ view.old.name }

@@ -37,7 +37,8 @@ pub fn follow_link<S: Steps<Ask = Ask, Answer = Answer>, L: Link, C: Clock, P: P
     name: &Name,
     unknown: bool,
 ) -> FollowEnd
-    ensures follows { Follows (asker_of S.Steps C.Clock session.old steps.old) name.now unknown session.old.turns (stand_of S.Steps L.Link session.old steps.old) (stand_of S.Steps L.Link session.new steps.new) result }
+    ensures follows { Follows (asker_of S.Steps C.Clock session.old steps.old) name.now unknown session.old.turns
+        (stand_of S.Steps L.Link session.old steps.old) (stand_of S.Steps L.Link session.new steps.new) result }
     ensures same { SessionGoesOn S.Steps C.Clock session.old session.new steps.old steps.new }
     ensures worn { result ≡ ends.Worn → S.is_worn steps.new }
 {
@@ -51,7 +52,8 @@ fn follow_all<S: Steps<Ask = Ask, Answer = Answer>, L: Link, C: Clock, P: Pause>
     name: &Name,
     unknown: bool,
 ) -> FollowEnd
-    ensures ends { Ends (asker_of S.Steps C.Clock session.old steps.old) name.now unknown (stand_of S.Steps L.Link session.old steps.old) (stand_of S.Steps L.Link session.new steps.new) session.new.turns result }
+    ensures ends { Ends (asker_of S.Steps C.Clock session.old steps.old) name.now unknown (stand_of S.Steps L.Link session.old steps.old)
+        (stand_of S.Steps L.Link session.new steps.new) session.new.turns result }
     ensures same { SessionGoesOn S.Steps C.Clock session.old session.new steps.old steps.new }
     ensures spent { Uses {T = Unit {0}} session.old.turns (stand_of S.Steps L.Link session.old steps.old) session.new.turns (stand_of S.Steps L.Link session.new steps.new) (Err result) }
     ensures worn { result ≡ ends.Worn → S.is_worn steps.new }
@@ -80,7 +82,8 @@ fn follow_reply<S: Steps<Ask = Ask, Answer = Answer>, L: Link, C: Clock, P: Paus
     steps: &mut S,
     name: &Name,
 ) -> FollowEnd
-    ensures answer { EndsAnswer (asker_of S.Steps C.Clock session.old steps.old) name.now (stand_of S.Steps L.Link session.old steps.old) (stand_of S.Steps L.Link session.new steps.new) session.new.turns result }
+    ensures answer { EndsAnswer (asker_of S.Steps C.Clock session.old steps.old) name.now (stand_of S.Steps L.Link session.old steps.old)
+        (stand_of S.Steps L.Link session.new steps.new) session.new.turns result }
     ensures same { SessionGoesOn S.Steps C.Clock session.old session.new steps.old steps.new }
     ensures spent { Uses {T = Unit {0}} session.old.turns (stand_of S.Steps L.Link session.old steps.old) session.new.turns (stand_of S.Steps L.Link session.new steps.new) (Err result) }
     ensures worn { result ≡ ends.Worn → S.is_worn steps.new }
@@ -133,7 +136,8 @@ fn follow_frames<S: Steps<Ask = Ask, Answer = Answer>, L: Link, C: Clock, P: Pau
     ensures frames { EndsFrames (asker_of S.Steps C.Clock session.old steps.old) name.now (stand_holding S.Steps L.Link frames.old session.old steps.old)
         (stand_of S.Steps L.Link session.new steps.new) session.new.turns result }
     ensures same { SessionGoesOn S.Steps C.Clock session.old session.new steps.old steps.new }
-    ensures spent { Uses {T = Unit {0}} session.old.turns (stand_holding S.Steps L.Link frames.old session.old steps.old) session.new.turns (stand_of S.Steps L.Link session.new steps.new) (Err result) }
+    ensures spent { Uses {T = Unit {0}} session.old.turns (stand_holding S.Steps L.Link frames.old session.old steps.old) session.new.turns
+        (stand_of S.Steps L.Link session.new steps.new) (Err result) }
     ensures worn { result ≡ ends.Worn → S.is_worn steps.new }
 {
     'frames: loop {

@@ -66,7 +66,8 @@ fn apply<S: Steps<Ask = Ask, Answer = Answer>, L, C: Clock, P: Pause>(
     steps: &mut S,
     ask: Ask,
 ) -> Result<(), FollowEnd>
-    ensures end { (name text : List ℕ) → IsAskOf name text ask → EndsFrame (asker_of S.Steps C.Clock session.old steps.old) name text (S.entries steps.old) (S.entries steps.new) session.new.turns result }
+    ensures end { (name text : List ℕ) → IsAskOf name text ask
+        → EndsFrame (asker_of S.Steps C.Clock session.old steps.old) name text (S.entries steps.old) (S.entries steps.new) session.new.turns result }
     ensures same { SessionGoesOn S.Steps C.Clock session.old session.new steps.old steps.new }
     ensures link { session.new.link ≡ session.old.link }
     ensures spent { Asks session.old.turns (length (S.entries steps.old)) session.new.turns (length (S.entries steps.new)) result }

@@ -34,7 +34,8 @@ pub fn run_child<R: Processes, L: Link, S: Starter>(
     requires { StartsUnder run.name.now (place L.Link link.old run.budget) (S.may_start starter.old) }
     // The program is started once at most, with these words, and only behind the grant of the lock; each end
     // has its cause.
-    ensures ends { (room : ℕ) × Ends run.entry.name.now run.entry.words.now (place L.Link link.old run.entry.budget) (place L.Link link.new room) (book S.Starter starter.old) (book S.Starter starter.new) result }
+    ensures ends { (room : ℕ) × Ends run.entry.name.now run.entry.words.now (place L.Link link.old run.entry.budget) (place L.Link link.new room)
+        (book S.Starter starter.old) (book S.Starter starter.new) result }
 {
     let mut room = run.budget;
     let closing = match take_halt(alloc, link, run.name, &mut room) {

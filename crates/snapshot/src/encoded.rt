@@ -112,6 +112,7 @@ impl<'a> EncodedFile<'a> {
     pub fn valid(&self)
         ensures { IsFile self.now }
     {
+        // Only so that the prover has the value at hand.
         let _post = self.post;
     }
 

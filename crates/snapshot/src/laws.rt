@@ -22,6 +22,7 @@ pub fn snapshot_is_a_file<D: Disk>(store: &Store<D>)
         (apply empty_image (snapshot_of (state_of (D.history store.now.disk) store.now.page_size store.now.commit store.now.entries.items store.now.dropped store.now.broken store.now.whole)).change)
         (state_of (D.history store.now.disk) store.now.page_size store.now.commit store.now.entries.items store.now.dropped store.now.broken store.now.whole).image }
 {
+    // Only so that the prover has the store's clauses at hand.
     let _position = store.pos();
     snapshot_is_sound();
     sums_page_by_page();

@@ -64,7 +64,8 @@ pub data TellsPermit (caller : ℕ) (pass : HaltPass) (old new : Stand NodeEntry
 
 -- HOW A SESSION GOES that asks for a permit by this ask: it is given, and told; or another answer's reply ends it; or nothing is asked
 pub data AsksPermit (caller : ℕ) (asked : Ask) (old new : Stand NodeEntry) (turns : ℕ) (end : SessionEnd) : Type 0 where
-  granted : (given : Answer) (pass : HaltPass) → pass_in given ≡ Some pass → TellsPermit caller pass (with_entry (entry caller asked given) old) new turns end → AsksPermit caller asked old new turns end
+  granted : (given : Answer) (pass : HaltPass) → pass_in given ≡ Some pass
+      → TellsPermit caller pass (with_entry (entry caller asked given) old) new turns end → AsksPermit caller asked old new turns end
   ungranted : (given : Answer) → pass_in given ≡ None → new.place.entries ≡ old.place.entries ++ entry caller asked given ∷ []
       → EndsReply (answer_reply given) old.place.taken new.place.taken old.faults new.faults turns end → AsksPermit caller asked old new turns end
   unasked : EndsAsking {T = Unit {0}} (Unit {0}) turns (Err end) → IsStill old.place new.place → new.faults ≡ old.faults → AsksPermit caller asked old new turns end

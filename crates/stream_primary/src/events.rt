@@ -29,7 +29,8 @@ pub fn serve_events<S: Steps<Ask = Ask, Answer = Answer>, L: Link, C: Clock, P: 
     steps: &mut S,
     name: &Name,
 ) -> SessionEnd
-    ensures serves { ServesEvents (asker_of S.Steps C.Clock session.old steps.old) name.now (stand_of S.Steps L.Link session.old steps.old) (stand_of S.Steps L.Link session.new steps.new) session.new.turns result }
+    ensures serves { ServesEvents (asker_of S.Steps C.Clock session.old steps.old) name.now (stand_of S.Steps L.Link session.old steps.old)
+        (stand_of S.Steps L.Link session.new steps.new) session.new.turns result }
     ensures left { Keeps (L.left session.old.link.now) (L.left session.new.link.now) }
     ensures same { SessionGoesOn S.Steps C.Clock session.old session.new steps.old steps.new }
     ensures spent { Spends {T = Unit {0}} session.old.turns (stand_of S.Steps L.Link session.old steps.old) session.new.turns (stand_of S.Steps L.Link session.new steps.new) (Err result) }
@@ -146,7 +147,8 @@ fn tell_answer<L: Link, C, P: Pause>(
     answer: &Answer,
     text: &mut Vec<u8>,
 ) -> Result<Option<Viewed>, SessionEnd>
-    ensures sent { EndsLines name.now told.now answer.now (L.taken session.old.link.now) (L.taken session.new.link.now) (L.faults session.old.link.now) (L.faults session.new.link.now) session.new.turns result }
+    ensures sent { EndsLines name.now told.now answer.now (L.taken session.old.link.now) (L.taken session.new.link.now)
+        (L.faults session.old.link.now) (L.faults session.new.link.now) session.new.turns result }
     ensures left { Keeps (L.left session.old.link.now) (L.left session.new.link.now) }
     ensures spent { MovesFor result session.old.turns (L.moves session.old.link.now) session.new.turns (L.moves session.new.link.now) }
     ensures borrows { Borrows session.old session.new }
@@ -173,7 +175,8 @@ fn tell<L: Link, C, P: Pause>(
     files: &Files,
     text: &mut Vec<u8>,
 ) -> Result<Option<Viewed>, SessionEnd>
-    ensures sent { EndsLines name.now told.now (answers.Watched info.now files.now) (L.taken session.old.link.now) (L.taken session.new.link.now) (L.faults session.old.link.now) (L.faults session.new.link.now) session.new.turns result }
+    ensures sent { EndsLines name.now told.now (answers.Watched info.now files.now) (L.taken session.old.link.now) (L.taken session.new.link.now)
+        (L.faults session.old.link.now) (L.faults session.new.link.now) session.new.turns result }
     ensures left { Keeps (L.left session.old.link.now) (L.left session.new.link.now) }
     ensures spent { MovesFor result session.old.turns (L.moves session.old.link.now) session.new.turns (L.moves session.new.link.now) }
     ensures borrows { Borrows session.old session.new }

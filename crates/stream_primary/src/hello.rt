@@ -110,7 +110,8 @@ fn tell<L: Link, C, P: Pause>(
     answer: Answer,
     text: &mut Vec<u8>,
 ) -> Result<Standing, SessionEnd>
-    ensures sent { EndsTelling name.now at answer (L.taken session.old.link.now) (L.taken session.new.link.now) (L.faults session.old.link.now) (L.faults session.new.link.now) session.new.turns result }
+    ensures sent { EndsTelling name.now at answer (L.taken session.old.link.now) (L.taken session.new.link.now) (L.faults session.old.link.now)
+        (L.faults session.new.link.now) session.new.turns result }
     ensures left { Keeps (L.left session.old.link.now) (L.left session.new.link.now) }
     ensures spent { MovesFor result session.old.turns (L.moves session.old.link.now) session.new.turns (L.moves session.new.link.now) }
     ensures borrows { Borrows session.old session.new }

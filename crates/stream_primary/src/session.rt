@@ -21,7 +21,8 @@ pub fn serve_link<S: Steps<Ask = Ask, Answer = Answer>, L: Link, C: Clock, P: Pa
     steps: &mut S,
     about: &About<G>,
 ) -> SessionEnd
-    ensures session { IsSession (asker_of S.Steps C.Clock session.old steps.old) about.now.name session.old.turns (stand_of S.Steps L.Link session.old steps.old) (stand_of S.Steps L.Link session.new steps.new) result }
+    ensures session { IsSession (asker_of S.Steps C.Clock session.old steps.old) about.now.name session.old.turns
+        (stand_of S.Steps L.Link session.old steps.old) (stand_of S.Steps L.Link session.new steps.new) result }
     ensures same { SessionGoesOn S.Steps C.Clock session.old session.new steps.old steps.new }
     ensures worn { result ≡ ends.Worn → S.is_worn steps.new }
 {
@@ -34,7 +35,8 @@ fn converse<S: Steps<Ask = Ask, Answer = Answer>, L: Link, C: Clock, P: Pause, G
     steps: &mut S,
     about: &About<G>,
 ) -> SessionEnd
-    ensures ends { Ends (asker_of S.Steps C.Clock session.old steps.old) about.now.name (stand_of S.Steps L.Link session.old steps.old) (stand_of S.Steps L.Link session.new steps.new) session.new.turns result }
+    ensures ends { Ends (asker_of S.Steps C.Clock session.old steps.old) about.now.name (stand_of S.Steps L.Link session.old steps.old)
+        (stand_of S.Steps L.Link session.new steps.new) session.new.turns result }
     ensures same { SessionGoesOn S.Steps C.Clock session.old session.new steps.old steps.new }
     ensures spent { Spends {T = Unit {0}} session.old.turns (stand_of S.Steps L.Link session.old steps.old) session.new.turns (stand_of S.Steps L.Link session.new steps.new) (Err result) }
     ensures worn { result ≡ ends.Worn → S.is_worn steps.new }

@@ -20,7 +20,8 @@ pub fn stream<S: Steps<Ask = Ask, Answer = Answer>, L: Link, C: Clock, P: Pause>
     name: &Name,
     from: Whereabouts,
 ) -> SessionEnd
-    ensures streams { Streams (asker_of S.Steps C.Clock session.old steps.old) name.now from (stand_of S.Steps L.Link session.old steps.old) (stand_of S.Steps L.Link session.new steps.new) session.new.turns result }
+    ensures streams { Streams (asker_of S.Steps C.Clock session.old steps.old) name.now from (stand_of S.Steps L.Link session.old steps.old)
+        (stand_of S.Steps L.Link session.new steps.new) session.new.turns result }
     ensures left { Keeps (L.left session.old.link.now) (L.left session.new.link.now) }
     ensures same { SessionGoesOn S.Steps C.Clock session.old session.new steps.old steps.new }
     ensures spent { Spends {T = Unit {0}} session.old.turns (stand_of S.Steps L.Link session.old steps.old) session.new.turns (stand_of S.Steps L.Link session.new steps.new) (Err result) }

@@ -29,7 +29,8 @@ pub fn serve_info<S: Steps<Ask = Ask, Answer = Answer>, L: Link, C: Clock, P, G:
     name: &Name,
     gauge: &G,
 ) -> SessionEnd
-    ensures serves { ServesInfo (asker_of S.Steps C.Clock session.old steps.old) name.now (stand_of S.Steps L.Link session.old steps.old) (stand_of S.Steps L.Link session.new steps.new) session.new.turns result }
+    ensures serves { ServesInfo (asker_of S.Steps C.Clock session.old steps.old) name.now (stand_of S.Steps L.Link session.old steps.old)
+        (stand_of S.Steps L.Link session.new steps.new) session.new.turns result }
     ensures left { Keeps (L.left session.old.link.now) (L.left session.new.link.now) }
     ensures same { SessionGoesOn S.Steps C.Clock session.old session.new steps.old steps.new }
     ensures spent { Spends {T = Unit {0}} session.old.turns (stand_of S.Steps L.Link session.old steps.old) session.new.turns (stand_of S.Steps L.Link session.new steps.new) (Err result) }
@@ -47,7 +48,8 @@ pub fn serve_metrics<S: Steps<Ask = Ask, Answer = Answer>, L: Link, C: Clock, P,
     steps: &mut S,
     gauge: &G,
 ) -> SessionEnd
-    ensures serves { ServesMetrics (asker_of S.Steps C.Clock session.old steps.old) (stand_of S.Steps L.Link session.old steps.old) (stand_of S.Steps L.Link session.new steps.new) session.new.turns result }
+    ensures serves { ServesMetrics (asker_of S.Steps C.Clock session.old steps.old) (stand_of S.Steps L.Link session.old steps.old)
+        (stand_of S.Steps L.Link session.new steps.new) session.new.turns result }
     ensures left { Keeps (L.left session.old.link.now) (L.left session.new.link.now) }
     ensures same { SessionGoesOn S.Steps C.Clock session.old session.new steps.old steps.new }
     ensures spent { Spends {T = Unit {0}} session.old.turns (stand_of S.Steps L.Link session.old steps.old) session.new.turns (stand_of S.Steps L.Link session.new steps.new) (Err result) }
@@ -66,7 +68,8 @@ fn inform<S: Steps<Ask = Ask, Answer = Answer>, L: Link, C: Clock, P>(
     name: &Name,
     figures: &Figures,
 ) -> SessionEnd
-    ensures tells { TellsOf (asker_of S.Steps C.Clock session.old steps.old) (info_reply name.now figures.now) (stand_of S.Steps L.Link session.old steps.old) (stand_of S.Steps L.Link session.new steps.new) session.new.turns result }
+    ensures tells { TellsOf (asker_of S.Steps C.Clock session.old steps.old) (info_reply name.now figures.now)
+        (stand_of S.Steps L.Link session.old steps.old) (stand_of S.Steps L.Link session.new steps.new) session.new.turns result }
     ensures left { Keeps (L.left session.old.link.now) (L.left session.new.link.now) }
     ensures same { SessionGoesOn S.Steps C.Clock session.old session.new steps.old steps.new }
     ensures spent { Spends {T = Unit {0}} session.old.turns (stand_of S.Steps L.Link session.old steps.old) session.new.turns (stand_of S.Steps L.Link session.new steps.new) (Err result) }
@@ -91,7 +94,8 @@ fn measure<S: Steps<Ask = Ask, Answer = Answer>, L: Link, C: Clock, P>(
     steps: &mut S,
     figures: &Figures,
 ) -> SessionEnd
-    ensures tells { TellsOf (asker_of S.Steps C.Clock session.old steps.old) (metrics_reply figures.now) (stand_of S.Steps L.Link session.old steps.old) (stand_of S.Steps L.Link session.new steps.new) session.new.turns result }
+    ensures tells { TellsOf (asker_of S.Steps C.Clock session.old steps.old) (metrics_reply figures.now)
+        (stand_of S.Steps L.Link session.old steps.old) (stand_of S.Steps L.Link session.new steps.new) session.new.turns result }
     ensures left { Keeps (L.left session.old.link.now) (L.left session.new.link.now) }
     ensures same { SessionGoesOn S.Steps C.Clock session.old session.new steps.old steps.new }
     ensures spent { Spends {T = Unit {0}} session.old.turns (stand_of S.Steps L.Link session.old steps.old) session.new.turns (stand_of S.Steps L.Link session.new steps.new) (Err result) }

@@ -30,7 +30,8 @@ use Rattle.txn_log.specs.declared.receiving.Receiving.{Receiving}
 use Rattle.txn_log.specs.declared.taking_source.Intake.{Intake}
 
 -- over a folder at rest a file was received that is this one once it is made complete, and that would decide an image
-pub record IsOverAnewFrom (before : Folder) (image : DatabaseImage) (files : List LogFile) (dropped : Bool) (made : DatabaseImage) (received : Receiving) (sums : List ℕ) (count : ℕ) (entries : List Entry) (post : ℕ) (change : PageChange) (file : Ltx) : Type 0 where
+pub record IsOverAnewFrom (before : Folder) (image : DatabaseImage) (files : List LogFile) (dropped : Bool) (made : DatabaseImage)
+    (received : Receiving) (sums : List ℕ) (count : ℕ) (entries : List Entry) (post : ℕ) (change : PageChange) (file : Ltx) : Type 0 where
   pub kept : Kept image files dropped before
   pub valid : IsChange change
   pub up : HasUpTo received sums count change

@@ -51,7 +51,8 @@ AppliesFrom left left_now room broken position size commit sums (Err why) = Refu
 
 -- how it went: the file was applied, or the disk failed before its rename or from there on, or nothing was done
 abbrev pub WentFrom : Option (List ℕ) → Option (List ℕ) → ℕ → StoreState → Option Failure → History → Result Pos FromFault → StoreState → Option Failure → History → Type 0
-WentFrom left left_now commit old was start (Ok told) new now end = (file : Ltx) × Gave left left_now file × (told ≡ after file) × Moved old was start (Apply (whole_file commit file) ∷ []) None new now end
+WentFrom left left_now commit old was start (Ok told) new now end = (file : Ltx) × Gave left left_now file × (told ≡ after file)
+    × Moved old was start (Apply (whole_file commit file) ∷ []) None new now end
 WentFrom left left_now commit old was start (Err (from.Store fault.Disk)) new now end =
     Moved old was start [] (Some FailedBefore) new now end
     ⊎ ((file : Ltx) × Gave left left_now file × Moved old was start [] (Some (FailedIn (Apply (whole_file commit file)))) new now end)

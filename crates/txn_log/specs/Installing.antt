@@ -33,7 +33,8 @@ abbrev pub IsKeptOrInstalled : DatabaseImage → List LogFile → Bool → Datab
 IsKeptOrInstalled image files dropped made file c = Kept image files dropped c ⊎ IsInstalled made file c
 
 -- over a store at rest the encoding of a change would decide the image that the change makes of nothing
-pub record IsOverAnew (image : DatabaseImage) (files : List LogFile) (dropped : Bool) (made : DatabaseImage) (encoding : List ℕ) (entries : List Entry) (change : PageChange) (h : History) : Type 0 where
+pub record IsOverAnew (image : DatabaseImage) (files : List LogFile) (dropped : Bool) (made : DatabaseImage) (encoding : List ℕ)
+    (entries : List Entry) (change : PageChange) (h : History) : Type 0 where
   pub rest : IsAtRest image files dropped h
   pub would : WouldDecide made encoding entries change (now h)
 

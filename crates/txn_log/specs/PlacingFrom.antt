@@ -12,7 +12,8 @@ use Rattle.txn_log.specs.Kept.{LogFile, file_of, Kept, Shows, IsComplete}
 use Rattle.txn_log.specs.declared.receiving.Receiving.{Receiving}
 
 -- over a folder at rest a file was received that is this one once it is made complete, and that the image can take
-pub record IsOverFrom (before : Folder) (image : DatabaseImage) (files : List LogFile) (dropped : Bool) (received : Receiving) (sums : List ℕ) (count post : ℕ) (change : PageChange) (file : Ltx) : Type 0 where
+pub record IsOverFrom (before : Folder) (image : DatabaseImage) (files : List LogFile) (dropped : Bool) (received : Receiving) (sums : List ℕ)
+    (count post : ℕ) (change : PageChange) (file : Ltx) : Type 0 where
   pub kept : Kept image files dropped before
   pub shows : Shows image (bytes_of (before Database))
   pub empty : dropped ≡ true → files ≡ []

@@ -27,7 +27,8 @@ pub record Came (coming : Coming) (part : Part) (old encoding : List ℕ) (chang
 
 -- a source gave these bytes, and came to its end with them: they are the encoding of this file, which is taken in, and staged where
 -- the disk is honest
-pub record GaveTaken (honest : Bool) (before : Folder) (left left_now : Option (List ℕ)) (taken : Option Intake) (table sums : List ℕ) (count : ℕ) (wal : Bool) (room : ℕ) (outline : Outline) (h : History) : Type 0 where
+pub record GaveTaken (honest : Bool) (before : Folder) (left left_now : Option (List ℕ)) (taken : Option Intake) (table sums : List ℕ) (count : ℕ)
+    (wal : Bool) (room : ℕ) (outline : Outline) (h : History) : Type 0 where
   pub encoding : List ℕ
   pub change : PageChange
   pub read : Consumes left left_now encoding
