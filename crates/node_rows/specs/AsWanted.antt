@@ -4,13 +4,13 @@ use Rattle.std.specs.Option.{option_map}
 use Rattle.std.specs.declared.alloc.Global.{Global}
 use Rattle.lf_base.specs.declared.session_end.SessionEnd.{SessionEnd}
 use Rattle.test_base.specs.Ends.{end_name}
-use Rattle.node_rows.specs.declared.comparing.Served.{Served}
-use Rattle.node_rows.specs.declared.difference.Difference.{Difference}
-use Rattle.node_rows.specs.declared.difference.Difference.TheVariants as difference
-use Rattle.node_rows.specs.declared.scene.KeptFile.{KeptFile}
-use Rattle.node_rows.specs.declared.scene.Scene.{Scene}
-use Rattle.node_rows.specs.declared.scene.Session.{Session}
-use Rattle.node_rows.specs.declared.two_links.ClientReplies.{ClientReplies}
+use Rattle.node_rows.specs.declared.session.comparing.Served.{Served}
+use Rattle.node_rows.specs.declared.session.difference.Difference.{Difference}
+use Rattle.node_rows.specs.declared.session.difference.Difference.TheVariants as difference
+use Rattle.node_rows.specs.declared.session.scene.KeptFile.{KeptFile}
+use Rattle.node_rows.specs.declared.session.scene.Scene.{Scene}
+use Rattle.node_rows.specs.declared.session.scene.Session.{Session}
+use Rattle.node_rows.specs.declared.session.two_links.ClientReplies.{ClientReplies}
 
 -- the first place at which two texts differ, or the end of the shorter one
 pub record IsFirstDifference (found wanted : List ℕ) (at : ℕ) : Type 0 where

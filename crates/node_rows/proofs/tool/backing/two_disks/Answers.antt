@@ -1,0 +1,11 @@
+use Rattle.std.proofs.Common.{◌∙◌, All, List, [], ◌∷◌, ◌++◌, ap, subst, sym}
+use Rattle.std.proofs.lemmas.List.Elements.{All-cons, All-nil}
+use Rattle.node_mount.specs.MemMaker.{IsNewDisk}
+use Rattle.node_rows.proofs.tool.backing.two_disks.Goals as goal
+
+pub returns : goal.returns
+returns g c =
+    let first = c.in_ok-disk_with.field-0 in
+    let second = c.in_ok-disk_with-2.field-0 in
+    subst (λ l. All IsNewDisk l) (sym (c.in_ok-push.ensures.items ∙ ap (λ l. l ++ second ∷ []) c.in_ok-disks.ensures))
+    (All-cons IsNewDisk first (second ∷ []) c.in_ok-disk_with.ensures (All-cons IsNewDisk second [] c.in_ok-disk_with-2.ensures (All-nil IsNewDisk)))
