@@ -1,0 +1,16 @@
+import os, sys, time, subprocess
+sys.path.insert(0,'/work/main/tests')
+from support import Node
+P='/work/w/imp/db100'; L=os.environ['LITEFS']
+with Node() as n:
+    pid=n.process.pid
+    subprocess.run(['curl','-s','-H','Expect:','-X','POST','-T',P,f'http://127.0.0.1:{n.port}/import?name=app'],capture_output=True)
+    for k in range(4):
+        t=time.time(); subprocess.run(['curl','-s','-o','/dev/null',f'http://127.0.0.1:{n.port}/export?name=app']); a=time.time()-t
+        t=time.time(); subprocess.run(['curl','-s','-o','/work/w/imp/outx',f'http://127.0.0.1:{n.port}/export?name=app']); b=time.time()-t
+        t=time.time(); subprocess.run(f'{L} export --name app --addr 127.0.0.1:{n.port} > /dev/null',shell=True); c=time.time()-t
+        t=time.time(); subprocess.run(f'{L} export --name app --addr 127.0.0.1:{n.port} > /work/w/imp/outx',shell=True); d=time.time()-t
+        print('curl null %.3f file %.3f; command null %.3f file %.3f'%(a,b,c,d))
+    s=subprocess.Popen(['strace','-f','-c','-o','/work/w/imp/ex.out','-p',str(pid)],stderr=subprocess.DEVNULL); time.sleep(1)
+    subprocess.run(['curl','-s','-o','/dev/null',f'http://127.0.0.1:{n.port}/export?name=app']); s.terminate(); s.wait()
+    subprocess.run(['strace','-f','-c','-o','/work/w/imp/ex2.out',L,'export','--name','app','--addr',f'127.0.0.1:{n.port}'],stdout=open('/work/w/imp/outx','wb'))

@@ -1,0 +1,1 @@
+cd /work/w/$1; b=$(git log --format=%h --grep '^base$' | tail -1); git diff --binary $b HEAD > /work/w/$1.patch; cd /work/w/m; git apply --3way --index /work/w/$1.patch 2>&1 | grep -v 'cleanly\|Falling back\|Performing'; git status --short | grep -E '^(U|AA|DD|.U)'
