@@ -10,6 +10,7 @@ file_of lock.Pending = Database
 file_of lock.Reserved = Database
 file_of lock.Shared = Database
 file_of lock.Halt = LockFile
+file_of lock.Many = LockFile
 file_of _ = Shm
 
 -- a lock's first byte in its file
@@ -27,6 +28,7 @@ first_byte lock.Read3 = 126
 first_byte lock.Read4 = 127
 first_byte lock.Dms = 128
 first_byte lock.Halt = 72
+first_byte lock.Many = 73
 
 -- how many bytes a lock has
 abbrev pub byte_count : LockId → ℕ

@@ -1,11 +1,11 @@
 use Rattle.std.specs.Prelude.{ℕ, List, [], ◌∷◌, Bool, nat_eq}
 use Rattle.byte_locks.specs.declared.lock_id.LockId.{LockId as Lock}
-use Rattle.byte_locks.specs.declared.lock_id.LockId.TheVariants.{Pending, Reserved, Shared, Write, Ckpt, Recover, Read0, Read1, Read2, Read3, Read4, Dms, Halt}
+use Rattle.byte_locks.specs.declared.lock_id.LockId.TheVariants.{Pending, Reserved, Shared, Write, Ckpt, Recover, Read0, Read1, Read2, Read3, Read4, Dms, Halt, Many}
 
 -- every lock, in order
 unfoldable pub every_lock : List Lock
 every_lock =
-    Pending ∷ Reserved ∷ Shared ∷ Write ∷ Ckpt ∷ Recover ∷ Read0 ∷ Read1 ∷ Read2 ∷ Read3 ∷ Read4 ∷ Dms ∷ Halt ∷ []
+    Pending ∷ Reserved ∷ Shared ∷ Write ∷ Ckpt ∷ Recover ∷ Read0 ∷ Read1 ∷ Read2 ∷ Read3 ∷ Read4 ∷ Dms ∷ Halt ∷ Many ∷ []
 
 -- a lock's place in that order
 abbrev pub place_of : Lock → ℕ
@@ -22,6 +22,7 @@ place_of Read3 = 9
 place_of Read4 = 10
 place_of Dms = 11
 place_of Halt = 12
+place_of Many = 13
 
 -- whether two locks are one
 abbrev pub same_lock : Lock → Lock → Bool

@@ -1,4 +1,4 @@
-use Rattle.std.specs.Prelude.{◌≡◌, ◌≢◌, ℕ, ◌≤◌, Bool, true, ◌&&◌, not, nat_le, if◌then◌else◌}
+use Rattle.std.specs.Prelude.{◌≡◌, ◌≢◌, ℕ, ◌≤◌, Bool, true, ◌&&◌, not, nat_eq, nat_le, if◌then◌else◌}
 use Rattle.std.specs.Prelude.{List, ◌++◌, All, find, map, filter, count_by, Option, Some, None, is_some, is_none, IsSome, option_and_then}
 use Rattle.std.specs.List.{list_any}
 use Rattle.std.specs.Option.{option_map}
@@ -32,6 +32,10 @@ holder_count entries lock = count_by (λ e. same_lock e.lock lock) entries
 -- whether anybody holds the lock
 abbrev pub is_held : LockList → LockId → Bool
 is_held entries lock = list_any (λ e. same_lock e.lock lock) entries
+
+-- whether an owner of the session holds the lock
+abbrev pub is_held_by : LockList → ℕ → LockId → Bool
+is_held_by entries session lock = list_any (λ e. same_lock e.lock lock && nat_eq e.owner.session session) entries
 
 -- who holds the lock for writing, if anybody does
 abbrev pub writer_of : LockList → LockId → Option Owner

@@ -46,7 +46,7 @@ pub(crate) fn file_of(lock: LockId) -> FileKind
 {
     match lock {
         LockId::Pending | LockId::Reserved | LockId::Shared => FileKind::Database,
-        LockId::Halt => FileKind::LockFile,
+        LockId::Halt | LockId::Many => FileKind::LockFile,
         _ => FileKind::Shm,
     }
 }
@@ -70,6 +70,7 @@ fn first_byte(lock: LockId) -> u64
         LockId::Read4 => 127,
         LockId::Dms => 128,
         LockId::Halt => 72,
+        LockId::Many => 73,
     }
 }
 

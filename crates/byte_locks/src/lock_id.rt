@@ -1,8 +1,8 @@
 ghost use Rattle.std.specs.Prelude.{◌≡◌};
 ghost use Rattle.byte_locks.specs.LockId.{place_of, every_lock};
 
-/// A lock of SQLite's, in the order of their bytes: three of the database file, nine of the shared
-/// memory, and the lock of a halted primary.
+/// A lock, in the order of their bytes: SQLite's, three of the database file and nine of the shared memory;
+/// then two of the lock file: that of a halted primary, and the one that a client of many owners holds.
 #[derive(Clone, Copy, Debug, PartialEq, Eq)]
 pub enum LockId {
     Pending,
@@ -18,10 +18,11 @@ pub enum LockId {
     Read4,
     Dms,
     Halt,
+    Many,
 }
 
 /// How many locks there are.
-pub const LOCKS: usize = 13;
+pub const LOCKS: usize = 14;
 
 /// Every lock, in order.
 #[tactic(auto, unfolding(crate::specs::LockId::every_lock))]
@@ -42,6 +43,7 @@ pub(crate) fn all() -> [LockId; LOCKS]
         LockId::Read4,
         LockId::Dms,
         LockId::Halt,
+        LockId::Many,
     ]
 }
 

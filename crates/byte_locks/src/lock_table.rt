@@ -1,7 +1,7 @@
 ghost use Rattle.std.specs.Prelude.{◌≡◌, ◌≢◌, [], IfSome, IfNone, IsFalse, OnOk, OnErr, IfErr, Some, None, IsSome, ◌↔◌};
 ghost use Rattle.byte_locks.specs.declared.owner.Owner.{Owner};
 ghost use Rattle.byte_locks.specs.LockEntry.{in_set, on_file, of_session};
-ghost use Rattle.byte_locks.specs.LockList.{IsLockList, kind_held, is_held, writer_of, IsFree, StandsAgainst, IsShared, holder_count, HeldAfter};
+ghost use Rattle.byte_locks.specs.LockList.{IsLockList, kind_held, is_held, is_held_by, writer_of, IsFree, StandsAgainst, IsShared, holder_count, HeldAfter};
 ghost use Rattle.byte_locks.specs.LockList.{opponent, first_contested, conflict, is_full, first_full, MayGrant, HasCause, granted, without};
 
 use crate::grant::{grant, kind_held};
@@ -118,6 +118,13 @@ impl LockTable {
         ensures nobody { IsFalse result ↔ IsFree self.now lock }
     {
         self.is_held(lock)
+    }
+
+    /// Whether an owner of the session holds the lock.
+    pub fn held_by(&self, session: u64, lock: LockId) -> bool
+        ensures { result ≡ is_held_by self.now session lock }
+    {
+        self.entries.iter().any(|entry| entry.lock == lock && entry.owner.session == session)
     }
 
     fn is_held(&self, lock: LockId) -> bool

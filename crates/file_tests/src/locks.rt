@@ -4,7 +4,7 @@ use crate::same::same;
 use byte_locks::{FileKind, LockId, LockKind, LockSet, LockTable, Owner, SetFault, locks_of};
 use std::process::Abort;
 
-const ORDER: [LockId; 13] = [
+const ORDER: [LockId; 14] = [
     LockId::Pending,
     LockId::Reserved,
     LockId::Shared,
@@ -18,12 +18,13 @@ const ORDER: [LockId; 13] = [
     LockId::Read4,
     LockId::Dms,
     LockId::Halt,
+    LockId::Many,
 ];
 
 /// `PENDING_BYTE`, `RESERVED_BYTE`, `SHARED_FIRST` and `SHARED_SIZE` of SQLite's os.h, and
 /// `WALINDEX_LOCK_OFFSET` and the locks behind it of its wal.c and os_unix.c. A row ends with the
 /// places in `ORDER` of the locks in the range: the first, and one past the last.
-const RANGES: [(FileKind, u64, u64, usize, usize); 19] = [
+const RANGES: [(FileKind, u64, u64, usize, usize); 21] = [
     (FileKind::Database, 0x4000_0000, 0x4000_0001, 0, 2),
     (FileKind::Database, 0x4000_0002, 0x4000_01ff, 2, 3),
     (FileKind::Database, 0x4000_01ff, u64::MAX, 2, 3),
@@ -38,7 +39,9 @@ const RANGES: [(FileKind, u64, u64, usize, usize); 19] = [
     (FileKind::Shm, 129, u64::MAX, 0, 0),
     (FileKind::Shm, 0, u64::MAX, 3, 12),
     (FileKind::LockFile, 72, 72, 12, 13),
-    (FileKind::LockFile, 73, u64::MAX, 0, 0),
+    (FileKind::LockFile, 73, 73, 13, 14),
+    (FileKind::LockFile, 72, u64::MAX, 12, 14),
+    (FileKind::LockFile, 74, u64::MAX, 0, 0),
     (FileKind::Journal, 0, u64::MAX, 0, 0),
     (FileKind::Wal, 0, u64::MAX, 0, 0),
     (FileKind::PosFile, 0, u64::MAX, 0, 0),

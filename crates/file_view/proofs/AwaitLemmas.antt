@@ -70,7 +70,7 @@ waiting-unframed told s scene given c change none commits = elim (cases_Bool (en
     elim (cases_Bool (is_clean s.database)) [
       | inl tidy ↦ absurd (let e : Some change ≡ None = commits.of_the_image tidy in cc)
       | inr kept ↦
-          let row : (ends_writing s c && has_committed_frames s && not (is_clean s.database)) ≡ false = (none-holds (finishing_rows s scene given c) none).1.1.0 in
+          let row : (ends_writing s c && has_committed_frames s && not (is_clean s.database)) ≡ false = (none-holds (finishing_rows s scene given c) none).1.1.1.0 in
           unframed (has_committed_frames s) (rw (ends, kept) at row)
     ],
   )
@@ -87,7 +87,7 @@ journal-awaits told other old scene given c change new fits none done =
     let facts = waiting-unframed told old scene given c change none done.0 in
     let is : IsChangeOf old.database scene.page_size scene.commit change = done.0.is facts.0 in
     let size : change.page_size ≡ size_over old.database scene.page_size scene.commit = ap (λ (p : PageChange). p.page_size) is.is in
-    let free : old.held_write ≡ None = nothing-held old (none-holds (finishing_rows old scene given c) none).1.1.1.0 in
+    let free : old.held_write ≡ None = nothing-held old (none-holds (finishing_rows old scene given c) none).1.1.1.1.0 in
     let bare : committed_count (log_contents old) ≡ 0 = grind (arith, nat_tests, facts.1) in
     let waiting : Served = record old { journal = holding old.journal c } in
     let held : waiting.held_write ≡ None = free in

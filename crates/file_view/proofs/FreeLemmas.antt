@@ -60,7 +60,7 @@ resize-free s scene given len none =
 
 -- calls on the journal and the log
 pub finish-free : (s : Served) (scene : Scene) (given : Option ℕ) (c : JournalCall) → first_refusal (finishing_rows s scene given c) ≡ None → waits s ≡ false
-finish-free s scene given c none = (none-holds (finishing_rows s scene given c) none).1.1.1.0
+finish-free s scene given c none = (none-holds (finishing_rows s scene given c) none).1.1.1.1.0
 
 pub log-write-free : (s : Served) (scene : Scene) (given : Option ℕ) (place : ℕ) (bytes : List ℕ) → first_refusal (log_write_rows s scene given place bytes) ≡ None → waits s ≡ false
 log-write-free s scene given place bytes none = (none-holds (log_write_rows s scene given place bytes) none).1.1.1.1.1.1.1.1.1.0

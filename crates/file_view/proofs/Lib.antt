@@ -1,4 +1,5 @@
 pub mod AwaitLemmas
+pub mod CommitterLemmas
 pub mod DatabaseLemmas
 pub mod EndingLemmas
 pub mod FaultLemmas

@@ -1,11 +1,11 @@
 -- Who holds the locks that a rule asks for, and what follows from a change of locks.
-use Rattle.std.specs.Prelude.{ℕ, Bool, false, ◌&&◌, ◌||◌, not, nat_eq, Option, Some, None, List, take, drop, unwrap_or, if◌then◌else◌}
+use Rattle.std.specs.Prelude.{ℕ, Bool, false, ◌&&◌, ◌||◌, not, nat_eq, Option, Some, None, is_none, List, take, drop, unwrap_or, if◌then◌else◌}
 use Rattle.std.specs.Option.{option_map}
 use Rattle.byte_locks.specs.declared.owner.Owner.{Owner}
 use Rattle.byte_locks.specs.declared.lock_id.LockId.{LockId}
 use Rattle.byte_locks.specs.declared.lock_id.LockId.TheVariants as lock
 use Rattle.byte_locks.specs.LockEntry.{same_owner}
-use Rattle.byte_locks.specs.LockList.{LockList, writer_of}
+use Rattle.byte_locks.specs.LockList.{LockList, is_held_by, writer_of}
 use Rattle.database_file.specs.DatabaseFile.{DatabaseFile, clean}
 use Rattle.shm_index.specs.Shared.{Shared, has_index}
 use Rattle.shm_index.specs.Index.{names_log, without_header}
@@ -20,6 +20,14 @@ is_actor session (Some id) owner = nat_eq owner.session session && nat_eq owner.
 -- whether the acting owner of a message holds the lock for writing
 abbrev pub writes : LockList → ℕ → Option ℕ → LockId → Bool
 writes locks session given lock = unwrap_or (option_map (is_actor session given) (writer_of locks lock)) false
+
+-- whether a session speaks for many owners, as a mount does: an owner of it holds the lock Many
+abbrev pub is_many : LockList → ℕ → Bool
+is_many locks session = is_held_by locks session lock.Many
+
+-- whether a message of such a session names no owner
+abbrev pub is_unnamed : LockList → ℕ → Option ℕ → Bool
+is_unnamed locks session given = is_none given && is_many locks session
 
 -- whether an owner holds the lock for writing
 abbrev pub is_writer : LockList → LockId → Owner → Bool

@@ -10,7 +10,7 @@ use Rattle.lf_sqlite_pages.specs.Image.{DatabaseImage}
 use Rattle.file_view.specs.declared.journal.JournalCall.{JournalCall}
 use Rattle.file_view.specs.declared.journal.JournalCall.TheVariants as call
 use Rattle.file_view.specs.declared.view.Scene.{Scene}
-use Rattle.file_view.specs.Acting.{writes}
+use Rattle.file_view.specs.Acting.{is_unnamed, writes}
 use Rattle.file_view.specs.Errno.{EPERM, EIO, EAGAIN, EACCES, ENOSPC, EROFS}
 use Rattle.file_view.specs.JournalState.{call_finishes, called, holding, reach}
 use Rattle.file_view.specs.Refusal.{Row}
@@ -29,10 +29,12 @@ finishes s c = call_finishes s.journal.file c
 abbrev pub ends_writing : Served → JournalCall → Bool
 ends_writing s c = finishes s c && is_some s.writer
 
--- a call that finishes the journal. That of a torn owner stays, and gives the committed pages back once that owner has unlocked
+-- a call that finishes the journal. That of a torn owner stays, and gives the committed pages back once that owner has unlocked. A session
+-- that speaks for many owners has to name whose transaction it ends
 abbrev pub finishing_rows : Served → Scene → Option ℕ → JournalCall → List Row
 finishing_rows s scene given c =
     (finishes s c && is_some s.torn, EIO)
+    ∷ (ends_writing s c && is_unnamed s.locks scene.session given, EACCES)
     ∷ (ends_writing s c && not (writes s.locks scene.session given lock.Shared), EACCES)
     ∷ (ends_writing s c && has_committed_frames s && not (is_clean s.database), EPERM)
     ∷ (waits s, EAGAIN)

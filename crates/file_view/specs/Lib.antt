@@ -1,4 +1,5 @@
 pub mod Acting
+pub mod Committers
 pub mod DatabaseParts
 pub mod DatabaseRules
 pub mod DatabaseState

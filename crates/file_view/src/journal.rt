@@ -13,7 +13,7 @@ pub mod holding;
 use crate::asked::Write;
 use crate::errno::{EACCES, EAGAIN, EIO, ENOSPC, EPERM, EROFS};
 use crate::fault::ViewFault;
-use crate::view::{Scene, View, writes};
+use crate::view::{Scene, View, is_unnamed, writes};
 use byte_locks::{LockId, LockTable};
 use database_file::FileFault;
 use holding::Journal;
@@ -105,6 +105,9 @@ impl View {
         let ends_writing = self.ends_writing(call);
         if self.journal.would_finish(call) && self.torn.is_some() {
             return Some(EIO);
+        }
+        if ends_writing && is_unnamed(&self.locks, scene.session, given) {
+            return Some(EACCES);
         }
         if ends_writing && !writes(&self.locks, scene.session, given, LockId::Shared) {
             return Some(EACCES);

@@ -28,7 +28,7 @@ pub use laws::log_write_keeps_the_database;
 pub use locks::locks_at;
 pub use requests::Plan;
 pub use stand_laws::{
-    applied_view_stands, endings_keep_the_image, new_view_stands,
+    applied_view_stands, endings_keep_the_image, many_owners_commit_their_own, new_view_stands,
     replica_requests_leave_the_database, waiting_requests_go_on,
 };
 pub use view::{Role, Scene, View};

@@ -1,12 +1,15 @@
 //! Laws of the served files over the committed image, each the contract of a function that does nothing
 //! else.
-ghost use Rattle.std.specs.Prelude.{◌≡◌, ◌<◌, ℕ, true, Option, List};
+ghost use Rattle.std.specs.Prelude.{◌≡◌, ◌<◌, ℕ, true, Option, Some, List};
+ghost use Rattle.byte_locks.specs.declared.owner.Owner.{Owner as Holder};
 ghost use Rattle.lf_sqlite_pages.specs.Image.{DatabaseImage};
 ghost use Rattle.lf_sqlite_pages.specs.PageSize.{IsPageSize};
 ghost use Rattle.fuse_msgs.specs.declared.request.Request.{Request as Asked};
 ghost use Rattle.file_view.specs.declared.requests.Plan.{Plan as Planned};
 ghost use Rattle.file_view.specs.declared.view.Role.TheVariants as role;
 ghost use Rattle.file_view.specs.declared.view.Scene.{Scene as Over};
+ghost use Rattle.file_view.specs.Acting.{is_many};
+ghost use Rattle.file_view.specs.Committers.{CommitsFor};
 ghost use Rattle.file_view.specs.Done.{IsDone};
 ghost use Rattle.file_view.specs.Endings.{dropped, ended, committed, abandoned, applied};
 ghost use Rattle.file_view.specs.Overlay.{StandsOver};
@@ -50,6 +53,13 @@ pub fn waiting_requests_go_on()
     ensures ended { (s : Served) (session : ℕ) → GoesOn s (ended s session) }
     ensures committed { (old new : Served) (told : Option DatabaseImage) (page_size commit : ℕ) → IsSound old → GoesOn old new
         → StandsOver told page_size commit (committed old) → StandsOver told page_size commit (committed new) }
+{}
+
+/// In a session that speaks for many owners a request that commits uncommitted pages names the owner of them.
+pub fn many_owners_commit_their_own()
+    ensures { (told : Option DatabaseImage) (old new : Served) (scene : Over) (request : Asked) (plan : Planned) (owner : Holder) → IsSound old
+        → is_many old.locks scene.session ≡ true → old.writer ≡ Some owner → IsAllowed (rows_of old scene request) → IsDone told old scene request plan new
+        → CommitsFor owner scene request.op plan }
 {}
 
 /// At a replica where nobody writes a request leaves the database as it reads, and nobody writes

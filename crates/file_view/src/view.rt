@@ -1,7 +1,7 @@
 //! The files of one database, what a request on them is answered over, and whether who asks holds a
 //! lock that a rule asks for.
 ghost use Rattle.std.specs.Prelude.{◌≡◌, IfOk, None, [], Some};
-ghost use Rattle.file_view.specs.Acting.{is_actor, writes};
+ghost use Rattle.file_view.specs.Acting.{is_actor, is_unnamed, writes};
 ghost use Rattle.file_view.specs.Requests.{owner_of};
 ghost use Rattle.file_view.specs.Roles.{is_primary, is_replica};
 ghost use Rattle.file_view.specs.Served.{exists, host_size, file_size, has_committed_frames, waits};
@@ -84,6 +84,13 @@ pub fn writes(locks: &LockTable, session: u64, given: Option<u64>, lock: LockId)
         None => false,
         Some(owner) => is_actor(session, given, owner),
     }
+}
+
+/// Whether a message names no owner, of a session that speaks for many.
+pub fn is_unnamed(locks: &LockTable, session: u64, given: Option<u64>) -> bool
+    ensures { result ≡ is_unnamed locks.now session given }
+{
+    given.is_none() && locks.held_by(session, LockId::Many)
 }
 
 /// The served files of one database: the database file as far as it differs from the committed image,

@@ -40,6 +40,7 @@ lock_name lock.Read3 = codes "READ3"
 lock_name lock.Read4 = codes "READ4"
 lock_name lock.Dms = codes "DMS"
 lock_name lock.Halt = codes "HALT"
+lock_name lock.Many = codes "MANY"
 
 -- ---- a replica
 

@@ -198,6 +198,7 @@ fn lock_name(lock: LockId) -> &'static [u8]
         LockId::Read4 => b"READ4",
         LockId::Dms => b"DMS",
         LockId::Halt => b"HALT",
+        LockId::Many => b"MANY",
     }
 }
 
