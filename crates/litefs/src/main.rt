@@ -7,7 +7,7 @@ mod config_file;
 use config_file::ConfigFile;
 use lf_base::{Closing, NoMemory, Status, StdSink, StdSource, Text};
 use litefs_tool::{Host, run};
-use node_mount::{System, SystemMaker};
+use node_objects::{System, SystemMaker};
 use run_child::ProcessStarter;
 use std::process::ExitCode;
 use std::{env, io};

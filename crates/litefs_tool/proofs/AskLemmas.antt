@@ -6,7 +6,7 @@ use Rattle.std.proofs.KnownBytes.{Appends-nil, Consumes-nil}
 use Rattle.http_exchange.specs.declared.told.Told.{Told}
 use Rattle.http_exchange.specs.declared.told.Untold.{Untold}
 use Rattle.http_exchange.specs.declared.told.Untold.TheVariants as untold
-use Rattle.node_mount.specs.declared.counts.Counts.{Counts}
+use Rattle.node_objects.specs.declared.counts.Counts.{Counts}
 use Rattle.stream_wire.specs.declared.call.Call.TheVariants as call
 use Rattle.litefs_tool.specs.Asking.{AskBacks, Prints, asked, asked_at, success, unasked}
 use Rattle.litefs_tool.specs.Output.{AppendsPrefix}

@@ -22,8 +22,8 @@ use Rattle.lf_sqlite_pages.specs.Image.{DatabaseImage, image_bytes}
 use Rattle.ltx_backup.specs.Causes.{AllStay, Counts as DiskCounts, HasCauses, OneRose}
 use Rattle.ltx_backup.specs.declared.fault.BackupFault.{BackupFault}
 use Rattle.ltx_backup.specs.declared.fault.BackupFault.TheVariants as fault
-use Rattle.node_mount.specs.Making.{DisksRose, IsAtRest, NetworkRose, TellsBy}
-use Rattle.node_mount.specs.declared.counts.Counts.{Counts}
+use Rattle.node_objects.specs.Making.{DisksRose, IsAtRest, NetworkRose, TellsBy}
+use Rattle.node_objects.specs.declared.counts.Counts.{Counts}
 use Rattle.litefs_tool.specs.Disks.{CountsBackingUp, CountsRestoring, DiskBacks, OutputCause, backed_up, no_memory, restored, status_of_backup, status_of_unfetched}
 use Rattle.litefs_tool.specs.Output.{AppendsPrefix}
 use Rattle.litefs_tool.specs.Streams.{Fails, Holds, Stream}

@@ -1,6 +1,6 @@
 -- Disks that come back to their maker.
 use Rattle.std.proofs.Common.{◌≡◌, ◌∙◌, List, [], ◌∷◌, ◌++◌, Option, Some, None, refl, sym, ap, subst, append_assoc}
-use Rattle.node_mount.specs.Making.{TakesBack}
+use Rattle.node_objects.specs.Making.{TakesBack}
 use Rattle.node_mount.specs.Returns.{GivesBack}
 
 -- one object came back

@@ -6,8 +6,8 @@ use Rattle.std.proofs.lemmas.Bool.{cases_Bool}
 use Rattle.std.proofs.lemmas.Bool.Decides.{nat_tests}
 use Rattle.lf_base.specs.Dials.{Dial, TellsMore, TellsSame}
 use Rattle.lf_base.specs.Faults.{Rose}
-use Rattle.node_mount.specs.Making.{NetworkRose, TellsBy}
-use Rattle.node_mount.specs.declared.counts.Counts.{Counts}
+use Rattle.node_objects.specs.Making.{NetworkRose, TellsBy}
+use Rattle.node_objects.specs.declared.counts.Counts.{Counts}
 
 module _ (counts counts_after : Counts) where
   -- a dialer that had not failed rose

@@ -12,10 +12,10 @@ use Rattle.lf_base.specs.Position.{position_text}
 use Rattle.lf_base.specs.declared.pos.Pos.{Pos}
 use Rattle.lf_base.specs.declared.status.Status.{Status}
 use Rattle.lf_base.specs.declared.status.Status.TheVariants as status
-use Rattle.node_mount.specs.Making.{NetworkRose, TakesBack}
-use Rattle.node_mount.specs.declared.counts.Counts.{Counts}
-use Rattle.node_mount.specs.declared.returned.Returned.{Returned}
-use Rattle.node_mount.specs.declared.returned.Returned.TheVariants as returned
+use Rattle.node_objects.specs.Making.{NetworkRose, TakesBack}
+use Rattle.node_objects.specs.declared.counts.Counts.{Counts}
+use Rattle.node_objects.specs.declared.returned.Returned.{Returned}
+use Rattle.node_objects.specs.declared.returned.Returned.TheVariants as returned
 use Rattle.stream_wire.specs.StreamLine.{FitsPosition}
 use Rattle.stream_wire.specs.declared.call.Call.{Call}
 use Rattle.stream_wire.specs.declared.call.Call.TheVariants as call

@@ -16,13 +16,13 @@ use Rattle.lf_sqlite_pages.specs.Image.{DatabaseImage, image_bytes}
 use Rattle.ltx_backup.specs.Causes.{AreHonest}
 use Rattle.ltx_backup.specs.declared.fault.BackupFault.{BackupFault}
 use Rattle.ltx_backup.specs.declared.fault.BackupFault.TheVariants as fault
-use Rattle.node_mount.specs.Making.{DisksRose, NetworkRose, TakesBack, gave, refused}
+use Rattle.node_objects.specs.Making.{DisksRose, NetworkRose, TakesBack, gave, refused}
 use Rattle.node_mount.specs.Returns.{GivesBack}
-use Rattle.node_mount.specs.declared.asked.Asked.{Asked}
-use Rattle.node_mount.specs.declared.asked.Wanted.TheVariants as wants
-use Rattle.node_mount.specs.declared.counts.Counts.{Counts}
-use Rattle.node_mount.specs.declared.returned.Returned.{Returned}
-use Rattle.node_mount.specs.declared.returned.Returned.TheVariants as returned
+use Rattle.node_objects.specs.declared.asked.Asked.{Asked}
+use Rattle.node_objects.specs.declared.asked.Wanted.TheVariants as wants
+use Rattle.node_objects.specs.declared.counts.Counts.{Counts}
+use Rattle.node_objects.specs.declared.returned.Returned.{Returned}
+use Rattle.node_objects.specs.declared.returned.Returned.TheVariants as returned
 use Rattle.litefs_tool.specs.Output.{IsPrefix}
 use Rattle.litefs_tool.specs.Streams.{Fails, Holds, Stream, Takes}
 use Rattle.litefs_tool.specs.declared.folders.Folders.{Folders}

@@ -7,7 +7,7 @@ use Rattle.node_mount.specs.Damage.{DamageHasCause}
 use Rattle.node_mount.specs.Returns.{CameBack}
 use Rattle.node_mount.specs.declared.mount_fault.MountFault.{MountFault}
 use Rattle.node_mount.specs.declared.mount_fault.MountFault.TheVariants as fault
-use Rattle.node_mount.specs.declared.returned.Returned.{Returned}
+use Rattle.node_objects.specs.declared.returned.Returned.{Returned}
 
 -- the status by which a run says so
 abbrev pub status_of_fault : MountFault → Status

@@ -8,7 +8,7 @@ use Rattle.lf_base.specs.declared.source.Failed.{Failed}
 use Rattle.node_mount.specs.Configuring.{ReadsConfiguration}
 use Rattle.node_mount.specs.LeaseService.{ReadsService}
 use Rattle.node_mount.specs.Mounting.{IsMountCause}
-use Rattle.node_mount.specs.declared.counts.Counts.{Counts}
+use Rattle.node_objects.specs.declared.counts.Counts.{Counts}
 use Rattle.node_mount.specs.declared.mount_fault.MountFault.{MountFault}
 use Rattle.run_child.specs.Starts.{Book}
 use Rattle.run_child.specs.declared.child_end.ChildEnd.{ChildEnd}

@@ -5,10 +5,10 @@ use Rattle.lf_base.specs.declared.link.Link.{Ghosts as LinkGhosts}
 use Rattle.lf_base.specs.declared.source.Failed.{Failed}
 use Rattle.lf_base.specs.declared.status.Status.{Status}
 use Rattle.lf_base.specs.declared.status.Status.TheVariants as status
-use Rattle.node_mount.specs.Making.{NetworkRose, TakesBack, TellsBy}
-use Rattle.node_mount.specs.declared.counts.Counts.{Counts}
-use Rattle.node_mount.specs.declared.returned.Returned.{Returned}
-use Rattle.node_mount.specs.declared.returned.Returned.TheVariants as returned
+use Rattle.node_objects.specs.Making.{NetworkRose, TakesBack, TellsBy}
+use Rattle.node_objects.specs.declared.counts.Counts.{Counts}
+use Rattle.node_objects.specs.declared.returned.Returned.{Returned}
+use Rattle.node_objects.specs.declared.returned.Returned.TheVariants as returned
 use Rattle.run_child.specs.Course.{Ends}
 use Rattle.run_child.specs.Starts.{Book}
 use Rattle.run_child.specs.Talk.{place}

@@ -19,7 +19,7 @@ use crate::remote::Remote;
 use http_exchange::{Request, Told, Untold, exchange};
 use lf_base::{Bytes, Failed, Handles, Sink, Source, Text, read_pos};
 use link_session::Turns;
-use node_mount::Maker;
+use node_objects::Maker;
 use std::alloc::Global;
 use stream_wire::Call;
 

@@ -18,7 +18,7 @@ use backup_link::{Origin, Unfetched};
 use lf_base::{Failed, Handles, Name, Pos, Sink, pos_text};
 use lf_sqlite_pages::Image;
 use ltx_backup::BackupFault;
-use node_mount::Maker;
+use node_objects::Maker;
 use std::alloc::Global;
 
 /// For how many milliseconds a dial, or a read or a write on its link, may wait. A node that is asked may

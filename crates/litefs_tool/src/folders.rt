@@ -1,6 +1,6 @@
 //! The three folders of a backup, and the disks that a maker gives for them.
 ghost use Rattle.std.specs.Prelude.{◌≡◌, ◌<◌, ◌⊎◌, IfErr, IfOk, OnErr, OnOk};
-ghost use Rattle.node_mount.specs.Making.{DisksRose, IsAtRest};
+ghost use Rattle.node_objects.specs.Making.{DisksRose, IsAtRest};
 ghost use Rattle.node_mount.specs.Returns.{GivesBack};
 ghost use Rattle.litefs_tool.specs.Disks.{all_three, folders_of, GaveFewer, GaveThree};
 
@@ -8,7 +8,7 @@ use crate::backup_words::has_room;
 use backup_link::{Disks, level_name};
 use lf_base::{Failed, Name, NoMemory};
 use lf_disk::Disk;
-use node_mount::Maker;
+use node_objects::Maker;
 use std::alloc::Global;
 
 /// The names of a backup's folders, the lowest level's first.

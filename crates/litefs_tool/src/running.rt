@@ -1,7 +1,7 @@
 //! The command that runs a program under the lock of a database.
 ghost use Rattle.std.specs.Prelude.{◌≡◌};
-ghost use Rattle.node_mount.specs.declared.counts.Counts.{Counts};
-ghost use Rattle.node_mount.specs.Making.{NetworkRose, TellsBy};
+ghost use Rattle.node_objects.specs.declared.counts.Counts.{Counts};
+ghost use Rattle.node_objects.specs.Making.{NetworkRose, TellsBy};
 ghost use Rattle.run_child.specs.Starts.{book};
 ghost use Rattle.litefs_tool.specs.Running.{ChildBack, RanBy};
 ghost use Rattle.litefs_tool.specs.steps.Performing.{GoesRunning};
@@ -9,7 +9,7 @@ ghost use Rattle.litefs_tool.specs.steps.Performing.{GoesRunning};
 use crate::failure::Failure;
 use crate::task::Task;
 use lf_base::{Dialer, Failed, Handles};
-use node_mount::Maker;
+use node_objects::Maker;
 use run_child::{ChildEnd, ReadyStarter, Run, run_child};
 use std::alloc::Global;
 use std::process::Processes;

@@ -7,10 +7,10 @@ use Rattle.node_recovery.specs.declared.fault.RecoverFault.{RecoverFault}
 use Rattle.node_recovery.specs.declared.fault.RecoverFault.TheVariants as recovery
 use Rattle.node_mount.specs.Asking.{Asks, AsksAsRead, AsksLinks, AsksMount, AsksMounter, AreAskedFor, RefusesProxy, address_of, disk_of, files_of, gave_all, gave_links, gave_mounter, http_of, mounter_of}
 use Rattle.node_mount.specs.Configuring.{ReadsPast, ReadsSettings, SaysSettings}
-use Rattle.node_mount.specs.Making.{gave, refused, TakesBack}
+use Rattle.node_objects.specs.Making.{gave, refused, TakesBack}
 use Rattle.node_mount.specs.Mounting.{fault_of, IsOfReading, IsOpened}
 use Rattle.node_mount.specs.Returns.{GivesBack}
-use Rattle.node_mount.specs.declared.asked.Asked.{Asked}
+use Rattle.node_objects.specs.declared.asked.Asked.{Asked}
 use Rattle.node_mount.specs.declared.configuration.Configuration.{Configuration}
 use Rattle.node_mount.specs.declared.mount_fault.MountFault.{MountFault}
 use Rattle.node_mount.specs.declared.mount_fault.MountFault.TheVariants as fault

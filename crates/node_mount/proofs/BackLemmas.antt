@@ -6,10 +6,10 @@ use Rattle.node_recovery.specs.declared.fault.RecoverFault.TheVariants as recove
 use Rattle.node_recovery.specs.Opening.{IsWhy}
 use Rattle.node_mount.specs.declared.mount_fault.MountFault.{MountFault}
 use Rattle.node_mount.specs.declared.mount_fault.MountFault.TheVariants as fault
-use Rattle.node_mount.specs.declared.returned.Returned.{Returned}
-use Rattle.node_mount.specs.declared.returned.Returned.TheVariants as returned
+use Rattle.node_objects.specs.declared.returned.Returned.{Returned}
+use Rattle.node_objects.specs.declared.returned.Returned.TheVariants as returned
 use Rattle.node_mount.specs.Damage.{DamageHasCause}
-use Rattle.node_mount.specs.Making.{TakesBack}
+use Rattle.node_objects.specs.Making.{TakesBack}
 use Rattle.node_mount.specs.Mounting.{fault_of, IsOfReading, IsOpened}
 use Rattle.node_mount.specs.Returns.{GivesBack, CameBack}
 use Rattle.node_mount.specs.Serving.{CountsServing, GivesLimit}

@@ -3,7 +3,7 @@ use Rattle.std.proofs.Common.{◌≡◌, ℕ, List, Option, Result, Ok, Err, ref
 use Rattle.node_mount.specs.declared.configuration.Configuration.{Configuration}
 use Rattle.node_mount.specs.Configuring.{CountsSource, ReadsConfiguration, ReadsPast, SaysSettings}
 use Rattle.node_mount.specs.Mounting.{IsOfReading, IsPastReading, RaisesFor}
-use Rattle.node_mount.specs.declared.counts.Counts.{Counts}
+use Rattle.node_objects.specs.declared.counts.Counts.{Counts}
 use Rattle.node_mount.specs.declared.mount_fault.MountFault.{MountFault}
 use Rattle.node_mount.specs.declared.mount_fault.MountFault.TheVariants as fault
 

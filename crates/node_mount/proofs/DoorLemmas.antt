@@ -3,14 +3,14 @@ use Rattle.std.proofs.Common.{◌≡◌, inl, inr, ℕ, Bool, [], ◌∷◌, Lis
 use Rattle.node_settings.specs.declared.settings.Settings.{Settings}
 use Rattle.node_mount.specs.Asking.{AsksLinks, files_of, http_of}
 use Rattle.node_mount.specs.Doors.{AsksDoors, CallsBack, DoorsBack}
-use Rattle.node_mount.specs.Making.{TakesBack, gave, refused}
+use Rattle.node_objects.specs.Making.{TakesBack, gave, refused}
 use Rattle.node_mount.specs.Returns.{CameBack}
-use Rattle.node_mount.specs.declared.asked.Asked.{Asked}
+use Rattle.node_objects.specs.declared.asked.Asked.{Asked}
 use Rattle.node_mount.specs.declared.doors.Unmade.{Unmade}
 use Rattle.node_mount.specs.declared.doors.Unmade.TheVariants as unmade
 use Rattle.node_mount.specs.declared.mount_fault.MountFault.TheVariants as fault
-use Rattle.node_mount.specs.declared.returned.Returned.{Returned}
-use Rattle.node_mount.specs.declared.returned.Returned.TheVariants as returned
+use Rattle.node_objects.specs.declared.returned.Returned.{Returned}
+use Rattle.node_objects.specs.declared.returned.Returned.TheVariants as returned
 use Rattle.node_mount.proofs.AskLemmas.{refuses_after, then_these}
 use Rattle.node_mount.proofs.BackLemmas.{and_one, one_back}
 

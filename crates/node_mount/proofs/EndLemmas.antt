@@ -2,15 +2,15 @@
 use Rattle.std.proofs.Common.{◌≡◌, inl, inr, ℕ, Bool, Option, List, Result, Ok, Err, IfOk, refl, sym, subst, ◌∙◌}
 use Rattle.node_core.specs.declared.answer.Answer.{Answer}
 use Rattle.node_mount.specs.Ending.{BreaksWhere, CountsEnd, EndsBroken, end_of}
-use Rattle.node_mount.specs.Making.{DisksRose, NetworkRose, SpawnersRose}
+use Rattle.node_objects.specs.Making.{DisksRose, NetworkRose, SpawnersRose}
 use Rattle.node_mount.specs.Mounting.{IsOpened, IsServing, RaisesFor}
 use Rattle.node_mount.specs.Returns.{CameBack}
-use Rattle.node_mount.specs.declared.counts.Counts.{Counts}
+use Rattle.node_objects.specs.declared.counts.Counts.{Counts}
 use Rattle.node_mount.specs.declared.ending.End.{End}
 use Rattle.node_mount.specs.declared.ending.End.TheVariants as ends
 use Rattle.node_mount.specs.declared.mount_fault.MountFault.{MountFault}
 use Rattle.node_mount.specs.declared.mount_fault.MountFault.TheVariants as fault
-use Rattle.node_mount.specs.declared.returned.Returned.{Returned}
+use Rattle.node_objects.specs.declared.returned.Returned.{Returned}
 
 -- it was opened
 pub end_opened : (served : Result End MountFault) → IsServing served → IsOpened (end_of served)

@@ -1,4 +1,3 @@
-pub mod DiskLemmas
 mod ConfigLemmas
 mod ServingLemmas
 mod BackLemmas

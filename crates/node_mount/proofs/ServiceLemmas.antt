@@ -4,13 +4,13 @@ use Rattle.lf_base.specs.declared.link.Link.{Ghosts as LinkGhosts}
 use Rattle.node_settings.specs.declared.settings.ServiceSettings.{ServiceSettings}
 use Rattle.node_mount.specs.LeaseService.{CountsAccepts, HttpBack, LeasesBack, ReadsService, ReadsSettings, SaysService, SaysTime, ServesAnew, ServesTold}
 use Rattle.node_mount.specs.Configuring.{ReadsPast}
-use Rattle.node_mount.specs.Making.{TakesBack}
+use Rattle.node_objects.specs.Making.{TakesBack}
 use Rattle.node_mount.specs.Mounting.{IsOfReading, IsPastReading}
 use Rattle.node_mount.specs.Serving.{GivesLimit}
 use Rattle.node_mount.specs.declared.mount_fault.MountFault.{MountFault}
 use Rattle.node_mount.specs.declared.mount_fault.MountFault.TheVariants as fault
-use Rattle.node_mount.specs.declared.returned.Returned.{Returned}
-use Rattle.node_mount.specs.declared.returned.Returned.TheVariants as returned
+use Rattle.node_objects.specs.declared.returned.Returned.{Returned}
+use Rattle.node_objects.specs.declared.returned.Returned.TheVariants as returned
 use Rattle.node_mount.proofs.BackLemmas.{one_back}
 
 -- enough was read, and this is what it says

@@ -4,12 +4,12 @@ use Rattle.node_settings.specs.declared.settings.MountSettings.{MountSettings}
 use Rattle.node_settings.specs.declared.settings.ProxySettings.{ProxySettings}
 use Rattle.node_settings.specs.declared.settings.Settings.{Settings}
 use Rattle.node_mount.specs.Configuring.{ReadsSettings}
-use Rattle.node_mount.specs.Making.{TakesBack, gave, refused}
-use Rattle.node_mount.specs.Mounters.{mount_call}
+use Rattle.node_objects.specs.Making.{TakesBack, gave, refused}
+use Rattle.node_objects.specs.Mounters.{mount_call}
 use Rattle.node_mount.specs.Returns.{GivesBack}
-use Rattle.node_mount.specs.declared.asked.Asked.{Asked}
-use Rattle.node_mount.specs.declared.asked.Wanted.{Wanted}
-use Rattle.node_mount.specs.declared.asked.Wanted.TheVariants as wants
+use Rattle.node_objects.specs.declared.asked.Asked.{Asked}
+use Rattle.node_objects.specs.declared.asked.Wanted.{Wanted}
+use Rattle.node_objects.specs.declared.asked.Wanted.TheVariants as wants
 use Rattle.node_mount.specs.declared.mount_fault.MountFault.{MountFault}
 use Rattle.node_mount.specs.declared.mount_fault.MountFault.TheVariants as fault
 

@@ -1,16 +1,11 @@
 -- What is complained of in a configuration that was read.
-use Rattle.std.specs.Prelude.{ℕ, List, codes, Option, IsSomeAnd, Result, Ok, Err}
-use Rattle.node_settings.specs.Complaints.{Complains, text_of}
+use Rattle.std.specs.Prelude.{ℕ, List, Option, IsSomeAnd, Result, Ok, Err}
+use Rattle.node_settings.specs.Complaints.{Complains}
 use Rattle.node_settings.specs.declared.complaint.Complaint.{Complaint}
 use Rattle.node_settings.specs.declared.rule.Rule.{Rule}
 use Rattle.node_mount.specs.Configuring.{ReadsEnough}
-use Rattle.node_mount.specs.Lines.{shown}
 use Rattle.node_mount.specs.declared.mount_fault.MountFault.{MountFault}
 use Rattle.node_mount.specs.declared.mount_fault.MountFault.TheVariants as fault
-
--- the text of its line
-abbrev pub complaint_line : Complaint → List ℕ
-complaint_line complaint = shown (text_of (codes "litefs.toml") complaint)
 
 -- of bytes that are no configuration it is said what is complained of
 abbrev pub ComplainsOf : {T : Type 0} → List Rule → List ℕ → Result T MountFault → Option Complaint → Type 0

@@ -5,8 +5,8 @@ use Rattle.node_recovery.specs.Finding.{HasDamage}
 use Rattle.node_mount.specs.Returns.{GivesBack}
 use Rattle.node_mount.specs.declared.mount_fault.MountFault.{MountFault}
 use Rattle.node_mount.specs.declared.mount_fault.MountFault.TheVariants as fault
-use Rattle.node_mount.specs.declared.returned.Returned.{Returned}
-use Rattle.node_mount.specs.declared.returned.Returned.TheVariants as returned
+use Rattle.node_objects.specs.declared.returned.Returned.{Returned}
+use Rattle.node_objects.specs.declared.returned.Returned.TheVariants as returned
 
 -- the maker could give a disk that is not honest or has a damaged file; and it came back, as honest as it was
 pub record FindsDamage {D F H T S : Type 0} (honest : D → Bool) (history : D → History) (may_give : D → Type 0) (old new : Option (List (Returned D F H T S))) : Type 0 where

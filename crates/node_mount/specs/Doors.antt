@@ -3,14 +3,14 @@ use Rattle.std.specs.Prelude.{◌≡◌, ◌⊎◌, List, [], ◌∷◌, Option,
 use Rattle.node_settings.specs.declared.settings.ProxySettings.{ProxySettings}
 use Rattle.node_settings.specs.declared.settings.Settings.{Settings}
 use Rattle.node_mount.specs.Asking.{AreAskedFor, RefusesProxy, address_of, files_of, gave_calls, gave_links, http_of}
-use Rattle.node_mount.specs.Making.{NetworkRose, TakesBack, gave, refused}
+use Rattle.node_objects.specs.Making.{NetworkRose, TakesBack, gave, refused}
 use Rattle.node_mount.specs.Returns.{BothBack, FilesBack, HttpBack}
-use Rattle.node_mount.specs.declared.asked.Asked.{Asked}
-use Rattle.node_mount.specs.declared.counts.Counts.{Counts}
+use Rattle.node_objects.specs.declared.asked.Asked.{Asked}
+use Rattle.node_objects.specs.declared.counts.Counts.{Counts}
 use Rattle.node_mount.specs.declared.doors.Unmade.{Unmade}
 use Rattle.node_mount.specs.declared.doors.Unmade.TheVariants as unmade
 use Rattle.node_mount.specs.declared.proxy_links.Proxy.{Proxy}
-use Rattle.node_mount.specs.declared.returned.Returned.{Returned}
+use Rattle.node_objects.specs.declared.returned.Returned.{Returned}
 
 -- AN APPLICATION'S REQUESTS ARE PASSED ON where the settings have one, and to the target that they name
 abbrev pub PassesOn : {A T : Type 0} → Option ProxySettings → Option (Proxy A T) → Type 0

@@ -10,8 +10,8 @@ use Rattle.node_core.specs.declared.ask.Ask.{Ask}
 use Rattle.node_core.specs.declared.ask.Ask.TheVariants as asks
 use Rattle.node_core.specs.declared.info.NodeInfo.{NodeInfo}
 use Rattle.node_core.specs.declared.news.LeaseNews.TheVariants as news
-use Rattle.node_mount.specs.Making.{DisksRose}
-use Rattle.node_mount.specs.declared.counts.Counts.{Counts}
+use Rattle.node_objects.specs.Making.{DisksRose}
+use Rattle.node_objects.specs.declared.counts.Counts.{Counts}
 use Rattle.node_mount.specs.declared.ending.End.{End}
 use Rattle.node_mount.specs.declared.ending.End.TheVariants as ends
 use Rattle.node_mount.specs.declared.mount_fault.MountFault.{MountFault}

@@ -9,7 +9,7 @@ use Rattle.node_core.specs.declared.answer.Answer.{Answer}
 use Rattle.node_core.specs.declared.answer.Answer.TheVariants as answers
 use Rattle.node_core.specs.declared.ask.Ask.{Ask}
 use Rattle.node_core.specs.declared.ask.Ask.TheVariants as asks
-use Rattle.node_mount.specs.Lines.{shown}
+use Rattle.node_objects.specs.Lines.{shown}
 use Rattle.node_mount.specs.declared.frame_notes.Replica.{Replica}
 use Rattle.node_mount.specs.declared.frame_notes.Waits.{Waits}
 use Rattle.node_mount.specs.declared.frame_notes.Waits.TheVariants as held

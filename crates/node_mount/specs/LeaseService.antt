@@ -11,8 +11,8 @@ use Rattle.node_mount.specs.Configuring.{ReadsEnough}
 use Rattle.node_mount.specs.Returns.{GivesBack}
 use Rattle.node_mount.specs.declared.mount_fault.MountFault.{MountFault}
 use Rattle.node_mount.specs.declared.mount_fault.MountFault.TheVariants as fault
-use Rattle.node_mount.specs.declared.returned.Returned.{Returned}
-use Rattle.node_mount.specs.declared.returned.Returned.TheVariants as returned
+use Rattle.node_objects.specs.declared.returned.Returned.{Returned}
+use Rattle.node_objects.specs.declared.returned.Returned.TheVariants as returned
 
 -- ---- what it is told
 

@@ -1,14 +1,7 @@
-pub mod Making
-pub mod Lines
 pub mod RoleLines
 pub mod Noting
-pub mod Obstacles
+pub mod DamageLines
 pub mod Hearing
-pub mod Breaking
-pub mod MemSpawn
-pub mod Dialing
-pub mod Keeping
-pub mod MemMaker
 pub mod Configuring
 pub mod Complaining
 pub mod Serving
@@ -19,7 +12,7 @@ pub mod Duties
 pub mod Opening
 pub mod Places
 pub mod Returns
-pub mod Mounters
+pub mod MountKeeping
 pub mod Asking
 pub mod Doors
 pub mod Damage

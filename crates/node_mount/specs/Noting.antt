@@ -2,7 +2,7 @@
 use Rattle.std.specs.Prelude.{◌≡◌, ◌≢◌, ◌⊎◌, ℕ, ◌<◌, ◌≤◌, ◌-◌, List, [], ◌∷◌, ◌++◌, codes, length, All, slice_set, Option, Some, None}
 use Rattle.std.specs.List.{HoldsAt}
 use Rattle.lf_base.specs.Faults.{one_more}
-use Rattle.node_mount.specs.Lines.{shown}
+use Rattle.node_objects.specs.Lines.{shown}
 use Rattle.node_mount.specs.declared.notes.Note.{Note}
 use Rattle.node_mount.specs.declared.notes.NoteKind.{NoteKind}
 use Rattle.node_mount.specs.declared.notes.NoteKind.TheVariants as kinds

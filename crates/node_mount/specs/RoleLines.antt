@@ -6,7 +6,7 @@ use Rattle.file_view.specs.declared.view.Role.{Role}
 use Rattle.file_view.specs.declared.view.Role.TheVariants as role
 use Rattle.node_core.specs.declared.info.NodeInfo.{NodeInfo}
 use Rattle.node_settings.specs.declared.settings.Settings.{Settings}
-use Rattle.node_mount.specs.Lines.{shown}
+use Rattle.node_objects.specs.Lines.{shown}
 
 -- a replica names its primary's host, where it knows one
 abbrev pub replica_of : Option (List ℕ) → List ℕ

@@ -1,8 +1,8 @@
 //! A link of the served files, whose refusals are counted.
 ghost use Rattle.std.specs.Prelude.{◌≡◌};
 
-use crate::tally::Tally;
 use lf_base::{Failed, Link, le32_at};
+use node_figures::Tally;
 use std::net::SocketAddr;
 
 /// How many bytes the head of a reply has: its length, its error number below zero, and whose it is.

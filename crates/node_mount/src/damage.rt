@@ -1,13 +1,10 @@
 //! What is told of a data directory that is no store's.
 ghost use Rattle.std.specs.Prelude.{◌≡◌, IfOk};
-ghost use Rattle.node_mount.specs.Obstacles.{damage_line as damage_line_of, unrecovered_line as unrecovered_line_of};
+ghost use Rattle.node_mount.specs.DamageLines.{damage_line as damage_line_of, unrecovered_line as unrecovered_line_of};
 
-use crate::broken::put_file;
-use crate::line::Line;
-use crate::maker::Maker;
-use crate::tell::Lines;
 use lf_base::{Handles, Name, NoMemory, hex16};
 use lf_disk::FileName;
+use node_objects::{Line, Lines, Maker, put_file};
 use node_recovery::RecoverFault;
 use node_settings::Settings;
 use std::alloc::Global;

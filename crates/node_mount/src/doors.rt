@@ -1,13 +1,12 @@
 //! Where the links of a node come from.
 ghost use Rattle.std.specs.Prelude.{◌≡◌, IfOk};
 ghost use Rattle.node_mount.specs.Doors.{AsksCalls, AsksDoors, AsksProxy, CallsBack, CountsMaking, DoorsBack, PassesOn};
-ghost use Rattle.node_mount.specs.Making.{IsNew};
+ghost use Rattle.node_objects.specs.Making.{IsNew};
 
-use crate::maker::Maker;
-use crate::obstacle::tell_unheard;
 use crate::patience::HTTP_PATIENCE;
 use crate::proxy_links::Proxy;
 use lf_base::{Handles, NoMemory};
+use node_objects::{Maker, tell_unheard};
 use node_settings::{Address, Settings};
 use std::alloc::Global;
 

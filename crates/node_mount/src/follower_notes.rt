@@ -5,11 +5,11 @@ ghost use Rattle.node_mount.specs.declared.notes.NoteKind.TheVariants as kinds;
 
 use crate::frame_notes::is_snapshot;
 use crate::hearing::Hear;
-use crate::line::Line;
 use crate::notes::{Note, NoteKind, Notes};
-use crate::tally::{add, take_one};
 use lf_base::{NoMemory, Pos, pos_text};
 use node_core::{Answer, Ask};
+use node_figures::{add, take_one};
+use node_objects::Line;
 use std::alloc::Global;
 use std::cell::Cell;
 use std::sync::Wait;

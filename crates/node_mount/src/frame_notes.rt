@@ -4,12 +4,12 @@ ghost use Rattle.node_mount.specs.Hearing.{dropped_line as dropped_line_of, inst
 ghost use Rattle.node_mount.specs.declared.notes.NoteKind.TheVariants as kinds;
 
 use crate::hearing::Hear;
-use crate::line::Line;
 use crate::notes::{Note, NoteKind, Notes};
-use crate::tally::{Tally, add};
 use byte_locks::LockId;
 use lf_base::{Bytes, NoMemory, Pos, be64_at, pos_text};
 use node_core::{Answer, Ask};
+use node_figures::{Tally, add};
+use node_objects::Line;
 use std::alloc::Global;
 use std::sync::Wait;
 

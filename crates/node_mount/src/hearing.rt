@@ -12,9 +12,10 @@ ghost use Rattle.turn_desk.specs.Seats.{view, number_of, opened_on, IsOf};
 use lf_base::{Clock, Link, Name, Pause, SessionEnd};
 use link_session::{SeatPlace, Session, Steps};
 use node_core::{Answer, Ask};
+use node_figures::Gauge;
 use replica_apply::{FollowEnd, follow_link};
 use std::sync::Wait;
-use stream_primary::{About, Gauge, serve_link};
+use stream_primary::{About, serve_link};
 use turn_desk::{Desk, Machine, Seat, Worn};
 
 /// Hears what is asked of a node, and what it answers.

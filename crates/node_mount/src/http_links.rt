@@ -6,7 +6,6 @@ ghost use Rattle.turn_desk.specs.Seats.{IsOf};
 use crate::follower_notes::FollowerNotes;
 use crate::hall::{Links, two_holds};
 use crate::hearing::{Hear, Heard, HeardSeat, serve_heard};
-use crate::line::Line;
 use crate::means::Means;
 use crate::mount_fault::MountFault;
 use crate::node_gauge::{Meters, NodeGauge};
@@ -14,15 +13,16 @@ use crate::notes::Notes;
 use crate::patience::watcher_naps;
 use crate::place::Place;
 use crate::sessions::LINKS;
-use crate::tally::Tally;
 use crate::work::{Work, start_work};
 use lf_base::{
     Acceptor, Clock, Closing, Handles, Job, Link, Name, NoMemory, Pause, Spawner, start,
 };
 use node_core::{Answer, Ask};
+use node_figures::{Gauge, Tally};
+use node_objects::Line;
 use std::alloc::Global;
 use std::cell::Cell;
-use stream_primary::{About, Gauge};
+use stream_primary::About;
 use turn_desk::{Desk, Machine, Rest, Seat};
 
 /// How many HTTP links are served at a time, each stream to a follower among them.

@@ -7,17 +7,15 @@ ghost use Rattle.node_mount.specs.Mounting.{IsMountCause, IsOfReading, IsPastRea
 ghost use Rattle.node_mount.specs.Serving.{GivesLimit};
 ghost use Rattle.node_settings.specs.Rules.{service_rules};
 
-use crate::complaining::tell_complaint;
 use crate::configuring::{SIZE_MAX, new_piece, read_pieces};
-use crate::maker::Maker;
 use crate::means::BUDGET;
 use crate::mount_fault::MountFault;
-use crate::obstacle::tell_unheard;
 use crate::patience::lease_patience;
 use crate::sessions::LINKS;
 use lease_core::LeaseTable;
 use lease_link::{Waited, serve_lease};
 use lf_base::{Acceptor, Clock, Handles, Source, Text};
+use node_objects::{Maker, tell_complaint, tell_unheard};
 use node_settings::{Complaint, ServiceSettings, SettingsRefusal, read_service_settings};
 use std::alloc::Global;
 

@@ -1,16 +1,14 @@
 //! The program that mounts a node's files is kept running: started, looked at, and started again where it ended.
 ghost use Rattle.std.specs.Fmt.{decimal};
 ghost use Rattle.std.specs.Prelude.{◌≡◌, ◌++◌, IfOk, OnOk, Some, codes};
-ghost use Rattle.node_mount.specs.Breaking.{reason};
-ghost use Rattle.node_mount.specs.Lines.{shown};
-ghost use Rattle.node_mount.specs.Making.{TakesBack};
-ghost use Rattle.node_mount.specs.Mounters.{IsAsked, IsNewKeeper, Keeps, end_words, mount_front as front_words, mount_note as note_of_mount, news_words, program_name as name_of_program, runs_after as runs_by, tries_after as tries_by, wait_of as wait_by};
+ghost use Rattle.node_objects.specs.Breaking.{reason};
+ghost use Rattle.node_objects.specs.Lines.{shown};
+ghost use Rattle.node_objects.specs.Making.{TakesBack};
+ghost use Rattle.node_mount.specs.MountKeeping.{IsAsked, IsNewKeeper, Keeps, end_words, mount_front as front_words, mount_note as note_of_mount, news_words, program_name as name_of_program, runs_after as runs_by, tries_after as tries_by, wait_of as wait_by};
 
-use crate::broken::put_reason;
-use crate::line::Line;
-use crate::mounter::{Mounter, ProgramEnd, ProgramNews};
 use crate::notes::{Note, NoteKind};
 use lf_base::{Errno, NoMemory, Text};
+use node_objects::{Line, Mounter, ProgramEnd, ProgramNews, put_reason};
 use node_settings::MountSettings;
 use std::alloc::Global;
 

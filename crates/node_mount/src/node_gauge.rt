@@ -1,9 +1,8 @@
 //! The figures of a node.
 use crate::board::Board;
-use crate::tally::Tally;
 use lf_base::{Clock, Handles, NoMemory, Text};
+use node_figures::{Figures, Gauge, Tally};
 use std::alloc::Global;
-use stream_primary::{Figures, Gauge};
 
 /// Where a node's figures are found.
 #[derive(Drop)]

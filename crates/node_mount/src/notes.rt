@@ -1,9 +1,9 @@
 //! What the jobs of a node note, for the one that tells lines.
-use crate::line::Line;
 use crate::stream_notes::{begins_line, ends_line, not_reached_line};
-use crate::tally::Tally;
 use crate::to_notes::no_answer_line;
 use lf_base::{NoMemory, Text};
+use node_figures::Tally;
+use node_objects::Line;
 use replica_apply::FollowEnd;
 use std::alloc::Global;
 use std::sync::{Arc, Mutex, Wait};

@@ -2,9 +2,9 @@
 ghost use Rattle.std.specs.Prelude.{◌≡◌, ◌↔◌, [], IfOk, IsTrue, MatchOption};
 ghost use Rattle.node_mount.specs.Noting.{AreOthers, BeginsWith, IsDue, IsNext, IsOf, IsToldFirst, IsToldOf, IsWith};
 
-use crate::line::Line;
 use crate::notes::{Note, NoteKind};
 use lf_base::NoMemory;
+use node_objects::Line;
 use std::alloc::Global;
 
 /// For how many milliseconds the same note is only counted.

@@ -2,10 +2,10 @@
 ghost use Rattle.std.specs.Prelude.{◌≡◌, ◌≢◌, IfOk, MatchOption};
 ghost use Rattle.node_mount.specs.RoleLines.{replica_of as replica_of_host, role_line as role_line_of, role_words as role_words_of, ChangesRole};
 
-use crate::line::Line;
 use file_view::Role;
 use lf_base::{NoMemory, Pos, Text, pos_text};
 use node_core::NodeInfo;
+use node_objects::Line;
 use std::alloc::Global;
 
 /// What was told last of a node's role.

@@ -4,7 +4,7 @@ ghost use Rattle.std.specs.Prelude.{◌≡◌, true, IfOk, OnOk};
 ghost use Rattle.node_mount.specs.Doors.{PassesOn};
 ghost use Rattle.node_mount.specs.Duties.{AreDutiesBy};
 ghost use Rattle.node_mount.specs.Ending.{BreaksWhere};
-ghost use Rattle.node_mount.specs.Mounters.{Mounts};
+ghost use Rattle.node_mount.specs.MountKeeping.{Mounts};
 ghost use Rattle.node_mount.specs.Places.{HasSeenNone, IsUnused};
 ghost use Rattle.node_mount.specs.Serving.{CountsServing, CountsStarts, GivesLimit};
 ghost use Rattle.turn_desk.specs.Seats.{opened_on};
@@ -19,15 +19,14 @@ use crate::http_links::{Calling, Door, start_http};
 use crate::lease_rounds::rounds_work;
 use crate::means::Means;
 use crate::mount_fault::MountFault;
-use crate::mounter::Mounter;
 use crate::place::Place;
 use crate::proxy_links::start_proxy;
 use crate::tasks::Tasks;
-use crate::tell::Tell;
 use crate::watching::{Watching, watching_work};
 use crate::work::start_job;
 use lf_base::{Acceptor, Clock, Closing, Dialer, Handles, Link, Pause, Spawner};
 use node_core::{Answer, Ask};
+use node_objects::{Mounter, Tell};
 use turn_desk::Machine;
 
 /// By what a node is served beside the links to its files: its configuration, where its other links come from, and

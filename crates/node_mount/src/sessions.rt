@@ -7,13 +7,13 @@ ghost use Rattle.turn_desk.specs.Seats.{IsOf};
 use crate::counted_link::CountedLink;
 use crate::means::Means;
 use crate::place::Place;
-use crate::tally::Tally;
 use crate::to_primary::ToPrimary;
 use crate::work::{Work, start_work};
 use file_session::serve_files;
 use lf_base::{Clock, Dialer, Failed, Handles, Link, Name, NoMemory, Pause, Spawner};
 use link_session::AtSeat;
 use node_core::{Answer, Ask};
+use node_figures::Tally;
 use turn_desk::{Desk, Machine, Rest, Seat};
 
 /// For how many milliseconds a request that waits for a lock rests at most.

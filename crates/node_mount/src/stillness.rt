@@ -2,8 +2,8 @@
 ghost use Rattle.std.specs.Prelude.{IfOk, OnOk};
 ghost use Rattle.node_mount.specs.Noting.{BeginsWith, TellsStill};
 
-use crate::line::Line;
 use lf_base::NoMemory;
+use node_objects::Line;
 use std::alloc::Global;
 
 /// The line of two looks at a node between which more than so many milliseconds passed.

@@ -2,9 +2,9 @@
 ghost use Rattle.std.specs.Prelude.{◌≡◌, IfOk, codes};
 ghost use Rattle.node_mount.specs.Noting.{begins_line as begins, not_reached_line as not_reached, BeginsWith};
 
-use crate::line::Line;
 use lf_base::{NoMemory, Text};
 use node_core::Refusal;
+use node_objects::Line;
 use replica_apply::FollowEnd;
 use std::alloc::Global;
 use txn_log::StoreFault;

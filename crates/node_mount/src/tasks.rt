@@ -2,18 +2,17 @@
 ghost use Rattle.std.specs.Prelude.{◌≡◌, IfOk};
 ghost use Rattle.node_mount.specs.Asking.{AsksMount};
 ghost use Rattle.node_mount.specs.Duties.{AreDuties, HasDialer};
-ghost use Rattle.node_mount.specs.Mounters.{Mounts};
+ghost use Rattle.node_mount.specs.MountKeeping.{Mounts};
 
 use crate::duties::{Duties, KeeperParts, board_of, duties_of, to_primary};
-use crate::maker::Maker;
 use crate::mount_keeper::MountKeeper;
 use crate::node_gauge::Meters;
 use crate::notes::Notes;
 use crate::patience::lease_patience;
 use crate::sessions::Writer;
-use crate::tell::Lines;
 use crate::watching::{Watching, watching_of};
 use lf_base::{Clock, NoMemory};
+use node_objects::{Lines, Maker};
 use node_settings::{LeaseType, Settings};
 use std::alloc::Global;
 

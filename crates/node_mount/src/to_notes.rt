@@ -2,10 +2,10 @@
 ghost use Rattle.std.specs.Prelude.{◌≡◌, IfOk};
 ghost use Rattle.node_mount.specs.Noting.{no_answer_line as no_answer};
 
-use crate::line::Line;
 use crate::notes::Notes;
 use etcd_lease::Noting;
 use lf_base::{Handles, NoMemory, Text};
+use node_objects::Line;
 use std::alloc::Global;
 
 /// Notes each endpoint that was passed over.

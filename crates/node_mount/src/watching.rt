@@ -3,25 +3,23 @@
 ghost use Rattle.std.specs.Prelude.{◌≡◌, ◌++◌, max, IfOk};
 ghost use Rattle.node_mount.specs.Duties.{retention_without_rounds};
 ghost use Rattle.node_mount.specs.RoleLines.{start_behind, start_front};
-ghost use Rattle.node_mount.specs.Mounters.{Mounts};
+ghost use Rattle.node_mount.specs.MountKeeping.{Mounts};
 
 use crate::duties::stands_as_primary;
 use crate::ending::info_of;
 use crate::lease_rounds::{nap, prune};
-use crate::line::Line;
 use crate::means::Means;
 use crate::mount_keeper::MountKeeper;
-use crate::mounter::Mounter;
 use crate::notes::{MOST, NoteKind, Notes};
 use crate::place::Place;
 use crate::repeats::{KINDS, Repeated};
 use crate::role_told::RoleTold;
 use crate::sessions::LINKS;
 use crate::stillness::still_line;
-use crate::tell::{Lines, Tell};
 use crate::work::Work;
 use lf_base::{Clock, Closing, Handles, NoMemory, Pause};
 use node_core::{Answer, Ask, NodeInfo};
+use node_objects::{Line, Lines, Mounter, Tell};
 use node_settings::Settings;
 use std::alloc::Global;
 use turn_desk::Machine;

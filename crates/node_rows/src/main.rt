@@ -28,7 +28,7 @@ mod way;
 use difference::Difference;
 use failing::play_failing;
 use gathering::scenes_in;
-use node_mount::System;
+use node_objects::System;
 use scene::Scene;
 use std::fs::{self, File};
 use std::net::{TcpListener, TcpStream};

@@ -1,6 +1,6 @@
 //! A node is made of objects in memory, and run to its end.
 ghost use Rattle.std.specs.Prelude.{All, IfOk};
-ghost use Rattle.node_mount.specs.MemMaker.{IsNewDisk, IsNewDoor, IsNewSpawner};
+ghost use Rattle.node_objects.specs.MemMaker.{IsNewDisk, IsNewDoor, IsNewSpawner};
 
 use crate::clients::CONFIG;
 use crate::difference::Difference;
@@ -9,7 +9,8 @@ use lf_base::{
     CallSpawner, FixedClock, Handles, ListAcceptor, MemLink, SliceSource, ThreadSpawner,
 };
 use lf_disk::MemDisk;
-use node_mount::{Maker, MemMaker, MemParts, MemSpawn, mount};
+use node_mount::mount;
+use node_objects::{Maker, MemMaker, MemParts, MemSpawn};
 use std::alloc::Global;
 use test_base::Fault;
 

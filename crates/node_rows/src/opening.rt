@@ -1,6 +1,6 @@
 //! The node that a scene begins with.
 ghost use Rattle.std.specs.Prelude.{IfOk, IsTrue};
-ghost use Rattle.node_mount.specs.MemMaker.{IsNewDisk};
+ghost use Rattle.node_objects.specs.MemMaker.{IsNewDisk};
 ghost use Rattle.txn_log.specs.Opening.{IsBlank};
 
 use crate::scene::Start;
@@ -90,7 +90,7 @@ fn stopped_store(alloc: Global, start: Start) -> Result<Store<MemDisk>, Fault> {
 }
 
 /// The disk of a start, as a node finds it that was stopped.
-#[tactic(auto, using(node_mount::proofs::DiskLemmas::rests))]
+#[tactic(auto, using(node_objects::proofs::DiskLemmas::rests))]
 pub fn stored_disk(alloc: Global, start: Start) -> Result<MemDisk, Fault>
     ensures { IfOk result IsNewDisk }
 {

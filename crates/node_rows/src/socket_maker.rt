@@ -6,8 +6,9 @@ use lf_base::{
     Text, UnixAccept,
 };
 use lf_disk::MemDisk;
-use node_mount::{
-    Counts, FailedCall, KeptLines, Maker, MemMaker, MemMounter, MemSpawn, Obstacle, System, Tally,
+use node_figures::Tally;
+use node_objects::{
+    Counts, FailedCall, KeptLines, Maker, MemMaker, MemMounter, MemSpawn, Obstacle, System,
 };
 use node_settings::MountSettings;
 use std::fs;

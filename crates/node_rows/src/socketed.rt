@@ -10,7 +10,7 @@ use crate::socket_client::{connect, read_to_end};
 use crate::socket_maker::SocketMaker;
 use crate::two_links::play_two_clients;
 use lf_base::{Closing, Handles};
-use node_mount::System;
+use node_objects::System;
 use std::alloc::Global;
 use std::io::Write;
 use std::{fs, thread};

@@ -6,7 +6,7 @@ use crate::playing::play;
 use crate::scene::Scene;
 use crate::socketed::play_over_socket;
 use crate::waiting::play_waiting;
-use node_mount::System;
+use node_objects::System;
 use std::alloc::Global;
 use test_base::Fault;
 

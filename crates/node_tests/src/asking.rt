@@ -1,5 +1,5 @@
 //! What a maker was asked for, in words.
-use node_mount::{Asked, Wanted};
+use node_objects::{Asked, Wanted};
 use std::process::Abort;
 
 /// What was asked for at this place of a list, 'd' a data directory, 'f' file links, 'h' HTTP links, 'm' what mounts the files at

@@ -1,13 +1,14 @@
 //! How nodes end over memory: a stream from one, and one whose disk fails.
 ghost use Rattle.std.specs.Prelude.{All, IfOk};
-ghost use Rattle.node_mount.specs.MemMaker.{IsNewDisk, IsNewSpawner};
+ghost use Rattle.node_objects.specs.MemMaker.{IsNewDisk, IsNewSpawner};
 
 use crate::mounted::{PRIMARY, door_of, empty_disk, no_links, one_spawner, primary_over};
 use crate::replies::NOT_PRIMARY;
 use crate::same::same;
 use lf_base::{SliceSource, ThreadSpawner};
 use lf_disk::{Disk, FileName, MemDisk};
-use node_mount::{MemSpawn, MountFault, mount};
+use node_mount::{MountFault, mount};
+use node_objects::MemSpawn;
 use std::alloc::Global;
 use std::net::{TcpListener, TcpStream};
 use std::process::Abort;
@@ -67,7 +68,7 @@ fn a_level_stream_ends(rt: HostRuntime) {
 }
 
 /// A disk with one file of the log, of whose calls all but the next ones fail.
-#[tactic(auto, using(node_mount::proofs::DiskLemmas::rests))]
+#[tactic(auto, using(node_objects::proofs::DiskLemmas::rests))]
 fn disk_that_stops(rt: impl Copy + Abort, alloc: Global, file: &[u8], calls: u64) -> Vec<MemDisk>
     ensures { All IsNewDisk result.items }
 {

@@ -3,7 +3,8 @@
 use crate::leased::{letter_of, remove_socket, request_on};
 use crate::same::same;
 use lf_base::{Closing, Handles, SliceSource};
-use node_mount::{SystemMaker, mount};
+use node_mount::mount;
+use node_objects::SystemMaker;
 use std::alloc::Global;
 use std::io::Write;
 use std::net::{TcpListener, TcpStream};

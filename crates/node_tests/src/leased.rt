@@ -2,7 +2,8 @@
 
 use crate::same::same;
 use lf_base::{Closing, Handles, SliceSource};
-use node_mount::{System, SystemMaker, mount};
+use node_mount::mount;
+use node_objects::{System, SystemMaker};
 use std::alloc::Global;
 use std::io::{Read, Write};
 use std::net::{TcpListener, TcpStream};

@@ -1,16 +1,16 @@
 ghost use Rattle.std.specs.Prelude.{All};
-ghost use Rattle.node_mount.specs.MemMaker.{IsNewDisk, IsNewDoor};
+ghost use Rattle.node_objects.specs.MemMaker.{IsNewDisk, IsNewDoor};
 
 use crate::asking::asked_at;
 use crate::same::same;
 use lf_base::{FixedClock, ListAcceptor, Name, Text};
 use lf_disk::MemDisk;
-use node_mount::{Maker, MemMaker, MemParts, Returned};
+use node_objects::{Maker, MemMaker, MemParts, Returned};
 use std::alloc::Global;
 use std::net::{TcpListener, TcpStream};
 use std::process::Abort;
 
-#[tactic(auto, using(node_mount::proofs::DiskLemmas::rests))]
+#[tactic(auto, using(node_objects::proofs::DiskLemmas::rests))]
 fn one_disk(rt: impl Copy + Abort, alloc: Global) -> Vec<MemDisk>
     ensures { All IsNewDisk result.items }
 {

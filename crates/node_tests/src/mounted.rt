@@ -1,13 +1,14 @@
 //! Nodes that are mounted: a replica over the system's sockets, and HTTP links in memory.
 ghost use Rattle.std.specs.Prelude.{All};
-ghost use Rattle.node_mount.specs.MemMaker.{IsNewDisk, IsNewDoor, IsNewSpawner};
+ghost use Rattle.node_objects.specs.MemMaker.{IsNewDisk, IsNewDoor, IsNewSpawner};
 
 use crate::asking::asked_at;
 use crate::replies::NOT_FOUND;
 use crate::same::same;
 use lf_base::{CallSpawner, Closing, FixedClock, Handles, ListAcceptor, Name, SliceSource, Watch};
 use lf_disk::MemDisk;
-use node_mount::{Maker, MemMaker, MemParts, MemSpawn, System, SystemMaker, mount};
+use node_mount::mount;
+use node_objects::{Maker, MemMaker, MemParts, MemSpawn, System, SystemMaker};
 use std::alloc::Global;
 use std::net::{TcpListener, TcpStream};
 use std::process::Abort;
@@ -139,7 +140,7 @@ pub(crate) fn no_links(rt: impl Copy + Abort, alloc: Global) -> Vec<ListAcceptor
     one(alloc, accept).expect(&rt, "memory")
 }
 
-#[tactic(auto, using(node_mount::proofs::DiskLemmas::rests))]
+#[tactic(auto, using(node_objects::proofs::DiskLemmas::rests))]
 pub(crate) fn empty_disk(rt: impl Copy + Abort, alloc: Global) -> Vec<MemDisk>
     ensures { All IsNewDisk result.items }
 {

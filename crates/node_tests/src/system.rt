@@ -1,6 +1,6 @@
 use crate::same::same;
 use lf_base::{Closing, Name, Text};
-use node_mount::{Maker, System, SystemMaker};
+use node_objects::{Maker, System, SystemMaker};
 use std::fs;
 use std::net::{TcpListener, TcpStream};
 use std::os::unix::net::UnixListener;

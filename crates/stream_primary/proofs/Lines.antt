@@ -4,7 +4,7 @@ use Rattle.std.specs.Prelude.{slice_index_or}
 use Rattle.std.proofs.Math.Seq.{drop-cons}
 use Rattle.node_core.specs.declared.info.NodeInfo.{NodeInfo}
 use Rattle.txn_log.specs.declared.entry.Entry.{Entry}
-use Rattle.stream_primary.specs.declared.figures.Refused.{Refused}
+use Rattle.node_figures.specs.declared.figures.Refused.{Refused}
 use Rattle.stream_primary.specs.EventLines.{tx_line, tx_lines}
 use Rattle.stream_primary.specs.MetricsText.{refusal_line, refusal_lines}
 

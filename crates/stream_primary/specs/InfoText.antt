@@ -7,7 +7,7 @@ use Rattle.file_view.specs.declared.view.Role.TheVariants as role
 use Rattle.node_core.specs.declared.info.NodeInfo.{NodeInfo}
 use Rattle.stream_primary.specs.JsonText.{number_member, quoted_member, text_member, truth_member}
 use Rattle.stream_primary.specs.MetricsText.{is_primary}
-use Rattle.stream_primary.specs.declared.figures.Figures.{Figures}
+use Rattle.node_figures.specs.declared.figures.Figures.{Figures}
 
 -- the media type
 unfoldable pub info_type : List ℕ

@@ -1,6 +1,6 @@
 -- Prometheus' text format: metrics, each with its samples.
 use Rattle.std.specs.Prelude.{ℕ, ◌+◌, ◌/◌, ◌%◌, ◌^◌, zero, suc, min, ◌-◌, List, [], ◌∷◌, ◌++◌, Bool, true, false, codes, decimal, get_or}
-use Rattle.stream_primary.specs.declared.figures.Histogram.{Histogram}
+use Rattle.node_figures.specs.declared.figures.Histogram.{Histogram}
 use Rattle.stream_primary.specs.declared.metric_names.Metric.{Metric}
 use Rattle.stream_primary.specs.MetricNames.{help_of, name_of}
 

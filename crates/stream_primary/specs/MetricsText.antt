@@ -3,8 +3,8 @@ use Rattle.std.specs.Prelude.{ℕ, List, [], ◌∷◌, ◌++◌, Bool, true, fa
 use Rattle.file_view.specs.declared.view.Role.{Role}
 use Rattle.file_view.specs.declared.view.Role.TheVariants as role
 use Rattle.node_core.specs.declared.info.NodeInfo.{NodeInfo}
-use Rattle.stream_primary.specs.declared.figures.Figures.{Figures}
-use Rattle.stream_primary.specs.declared.figures.Refused.{Refused}
+use Rattle.node_figures.specs.declared.figures.Figures.{Figures}
+use Rattle.node_figures.specs.declared.figures.Refused.{Refused}
 use Rattle.stream_primary.specs.declared.metric_names.Metric.TheVariants as metric
 use Rattle.stream_primary.specs.Metric.{counter, flag, gauge, heading, histogram, label, sample, seconds}
 

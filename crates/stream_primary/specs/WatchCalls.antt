@@ -9,7 +9,7 @@ use Rattle.http_exchange.specs.Writing.{typed_reply}
 use Rattle.node_core.specs.declared.answer.Answer.{Answer}
 use Rattle.node_core.specs.declared.answer.Answer.TheVariants as answer
 use Rattle.node_core.specs.declared.ask.Ask.TheVariants as ask
-use Rattle.stream_primary.specs.declared.figures.Figures.{Figures}
+use Rattle.node_figures.specs.declared.figures.Figures.{Figures}
 use Rattle.stream_primary.specs.InfoText.{info_text, info_type}
 use Rattle.stream_primary.specs.MetricsText.{metrics_text, metrics_type}
 use Rattle.stream_primary.specs.Refusing.{refused_reply, EndsReply}

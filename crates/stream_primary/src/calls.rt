@@ -11,7 +11,6 @@ ghost use Rattle.stream_primary.specs.Request.{CameOfRequest, Request};
 use crate::about::About;
 use crate::database_calls::{IMPORT_MAX, serve_export, serve_import};
 use crate::events::serve_events;
-use crate::figures::Gauge;
 use crate::forward_call::{FORWARD_MAX, file_in, serve_forward};
 use crate::halt_calls::{NUMBER_LINE_MAX, number_in, serve_halt, serve_halt_back};
 use crate::replies::refuse;
@@ -21,6 +20,7 @@ use http_exchange::{Called, Kept, Wants};
 use lf_base::{Clock, Link, Pause, SessionEnd};
 use link_session::{Session, Steps};
 use node_core::{Answer, Ask};
+use node_figures::Gauge;
 use stream_wire::Call;
 
 /// The status of a call that is not served.

@@ -2,10 +2,10 @@
 ghost use Rattle.std.specs.Prelude.{◌≡◌, ◌<◌, ◌++◌, OnOk};
 ghost use Rattle.stream_primary.specs.Metric.{histogram, long_buckets, short_buckets, together, up_to};
 
-use crate::figures::Histogram;
 use crate::metric::{put_bucket, put_heading, put_sample, seconds};
 use crate::metric_names::Metric;
 use lf_base::NoMemory;
+use node_figures::Histogram;
 use std::alloc::Global;
 
 /// Appends a histogram.

@@ -2,13 +2,13 @@
 ghost use Rattle.std.specs.Prelude.{◌≡◌, ◌++◌, codes, OnOk};
 ghost use Rattle.stream_primary.specs.InfoText.{info_text, info_type, place_members, primary_member, reader_members, role_name, size_members, version_front, who_members};
 
-use crate::figures::Figures;
 use crate::json_text::{put_number, put_quoted, put_text, put_truth};
 use crate::metric::put;
 use crate::metrics_text::is_primary;
 use file_view::Role;
 use lf_base::{Name, NoMemory, Text, hex16, pos_text};
 use node_core::NodeInfo;
+use node_figures::Figures;
 use std::alloc::Global;
 
 /// The media type.

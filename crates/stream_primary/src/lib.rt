@@ -13,7 +13,6 @@ mod database_calls;
 mod ending;
 mod event_lines;
 mod events;
-mod figures;
 mod forward_call;
 mod halt_calls;
 mod hello;
@@ -38,7 +37,6 @@ mod viewed;
 mod watch_call;
 
 pub use about::About;
-pub use figures::{Counts, Figures, Gauge, Histogram, Refused};
 pub use laws::{owed_again, stream_in_one_run};
 pub use serving::serve_http;
 pub use session::serve_link;

@@ -2,7 +2,6 @@
 ghost use Rattle.std.specs.Prelude.{◌≡◌, ◌++◌, OnOk};
 ghost use Rattle.stream_primary.specs.MetricsText.{commit_rows, counter_rows, stream_rows, database_rows, has_database, is_halted, is_primary, log_rows, metrics_text, metrics_type, node_rows, reader_rows, refusal_line, refusal_lines, refusal_rows, time_rows};
 
-use crate::figures::{Figures, Refused};
 use crate::histogram::put_histogram;
 use crate::metric::{
     label_of, put_counter, put_flag, put_gauge, put_gauge_of, put_heading, put_sample, seconds,
@@ -11,6 +10,7 @@ use crate::metric_names::Metric;
 use file_view::Role;
 use lf_base::NoMemory;
 use node_core::NodeInfo;
+use node_figures::{Figures, Refused};
 use std::alloc::Global;
 
 /// The media type.

@@ -8,11 +8,11 @@ ghost use Rattle.turn_desk.specs.Seats.{view, number_of, opened_on};
 ghost use Rattle.stream_primary.specs.Session.{IsSession};
 
 use crate::about::About;
-use crate::figures::Gauge;
 use crate::session::serve_link;
 use lf_base::{Clock, Link, Pause, SessionEnd};
 use link_session::{AtSeat, Session};
 use node_core::{Answer, Ask};
+use node_figures::Gauge;
 use std::sync::Wait;
 use turn_desk::Machine;
 

@@ -8,12 +8,12 @@ ghost use Rattle.stream_primary.specs.Session.{Ends, IsSession};
 
 use crate::about::About;
 use crate::calls::{Bodies, serve_call};
-use crate::figures::Gauge;
 use crate::replies::refuse_too_long;
 use http_exchange::{Body, read_call};
 use lf_base::{Clock, Link, Pause, SessionEnd};
 use link_session::{Session, Steps};
 use node_core::{Answer, Ask};
+use node_figures::Gauge;
 
 /// Serves one request, to the end of its session.
 pub fn serve_link<S: Steps<Ask = Ask, Answer = Answer>, L: Link, C: Clock, P: Pause, G: Gauge>(

@@ -12,7 +12,6 @@ ghost use Rattle.stream_primary.specs.MetricsText.{metrics_text, metrics_type};
 ghost use Rattle.stream_primary.specs.Refusing.{EndsReply};
 ghost use Rattle.stream_primary.specs.WatchCalls.{AsksInfo, ServesInfo, ServesMetrics, TellsOf, info_reply, metrics_reply};
 
-use crate::figures::{Figures, Gauge};
 use crate::info_text::{info_type, put_info};
 use crate::metrics_text::{metrics_type, put_metrics};
 use crate::replies::refuse_answer;
@@ -20,6 +19,7 @@ use http_exchange::write_typed_reply;
 use lf_base::{Clock, Link, Name, SessionEnd};
 use link_session::{Session, Steps, Turns, take_step};
 use node_core::{Answer, Ask, NodeInfo};
+use node_figures::{Figures, Gauge};
 use std::alloc::Global;
 
 /// Serves a request for what the node is, to the end of its session.

@@ -2,8 +2,9 @@
 ghost use Rattle.std.specs.Prelude.{◌≡◌, IfOk, codes};
 
 use lf_base::NoMemory;
+use node_figures::{Counts, Figures, Gauge, Histogram};
 use std::alloc::Global;
-use stream_primary::{About, Counts, Figures, Gauge, Histogram};
+use stream_primary::About;
 use test_base::database;
 
 /// A gauge whose figures are all 0.

@@ -1,6 +1,6 @@
 //! Each row on a backup is played: it is run, and what it comes to is printed.
 ghost use Rattle.std.specs.Prelude.{All, IfOk};
-ghost use Rattle.node_mount.specs.MemMaker.{IsNewDisk, IsNewPhone};
+ghost use Rattle.node_objects.specs.MemMaker.{IsNewDisk, IsNewPhone};
 
 use crate::backups::{BackupRow, Last, Stream};
 use crate::making::{asking_maker, dialers, watched_link, write_file};
@@ -8,7 +8,7 @@ use crate::playing::{print_watched, run_named};
 use crate::running::host_with;
 use lf_base::{Bytes, Handles, MemDialer, Name, Pos, SliceSource, Watch};
 use lf_disk::MemDisk;
-use node_mount::MemMaker;
+use node_objects::MemMaker;
 use std::alloc::Global;
 use std::fs;
 use std::io::Print;
@@ -61,7 +61,7 @@ fn reply_of<R: Files + AllocGlobal>(rt: &R, stream: &Stream) -> Result<Vec<u8>, 
 }
 
 /// A disk with these files, as it is found after a stop.
-#[tactic(auto, using(node_mount::proofs::DiskLemmas::rests))]
+#[tactic(auto, using(node_objects::proofs::DiskLemmas::rests))]
 fn disk_with<R: Files + AllocGlobal>(
     rt: &R,
     files: &[(u64, &'static str)],

@@ -4,7 +4,7 @@ use crate::making::empty_maker;
 use crate::playing::ends;
 use crate::running::host_over;
 use lf_base::{Handles, SliceSource};
-use node_mount::MemMaker;
+use node_objects::MemMaker;
 use std::alloc::Global;
 use std::fs;
 use std::io::Print;

@@ -5,7 +5,7 @@ use crate::nodes::{CONFIG, ROOM};
 use crate::objects::{Calls, NONE, Object, asker_on, node_on};
 use crate::running::{host_failing, run_line};
 use lf_base::{Handles, SliceSource, VecSink};
-use node_mount::Maker;
+use node_objects::Maker;
 use std::alloc::Global;
 use std::fs;
 use std::io::Print;

@@ -1,6 +1,6 @@
 //! What a node is made of, and a lease service, and what a node is asked by.
 ghost use Rattle.std.specs.Prelude.{All, IfOk};
-ghost use Rattle.node_mount.specs.MemMaker.{IsNewDisk, IsNewDoor, IsNewPhone, IsNewSpawner};
+ghost use Rattle.node_objects.specs.MemMaker.{IsNewDisk, IsNewDoor, IsNewPhone, IsNewSpawner};
 ghost use Rattle.lf_base.specs.Doors.{IsUnused};
 
 use crate::asks::AskRow;
@@ -8,7 +8,7 @@ use crate::leases::LeaseRow;
 use crate::nodes::{NodeRow, ROOM};
 use lf_base::{CallSpawner, FixedClock, ListAcceptor, MemDialer, MemLink, Watch};
 use lf_disk::{Disk, FileName, MemDisk};
-use node_mount::{MemMaker, MemParts, MemSpawn};
+use node_objects::{MemMaker, MemParts, MemSpawn};
 use std::alloc::Global;
 use test_base::{Fault, NEVER, link_failing, one};
 
@@ -39,7 +39,7 @@ pub fn write_file<D: Disk>(disk: &mut D, txid: u64, file: &[u8]) -> Result<(), F
 }
 
 /// A disk that has one file of the log, or a part of it, as a node finds it that was stopped.
-#[tactic(auto, using(node_mount::proofs::DiskLemmas::rests))]
+#[tactic(auto, using(node_objects::proofs::DiskLemmas::rests))]
 pub fn disk_with(alloc: Global, file: &[u8]) -> Result<MemDisk, Fault>
     ensures { IfOk result IsNewDisk }
 {

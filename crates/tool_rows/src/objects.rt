@@ -1,12 +1,12 @@
 //! What a run is made of whose objects fail at stated calls.
 ghost use Rattle.std.specs.Prelude.{All, IfOk};
-ghost use Rattle.node_mount.specs.MemMaker.{IsNewDisk};
+ghost use Rattle.node_objects.specs.MemMaker.{IsNewDisk};
 
 use crate::making::{ASKED, dialing_maker, disk_with, door, node_maker, spawners, watched_link};
 use crate::nodes::{REQUEST, ROOM};
 use lf_base::Watch;
 use lf_disk::MemDisk;
-use node_mount::MemMaker;
+use node_objects::MemMaker;
 use std::alloc::Global;
 use test_base::{Fault, NEVER, one};
 

@@ -7,7 +7,7 @@ use crate::making::{Links, empty_maker, maker_of, service_of};
 use crate::nodes::NodeRow;
 use crate::running::{MemHost, host_over, run_line};
 use lf_base::{Handles, SliceSource, Watch};
-use node_mount::Maker;
+use node_objects::Maker;
 use std::alloc::Global;
 use std::fs;
 use std::io::Print;

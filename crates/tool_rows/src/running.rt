@@ -2,7 +2,7 @@
 
 use lf_base::{Handles, Sink, SliceSource, Source, Status, Text, VecSink};
 use litefs_tool::{Host, run};
-use node_mount::Maker;
+use node_objects::Maker;
 use run_child::{ListStarter, ReadyStarter};
 use std::alloc::Global;
 use std::process::Processes;

@@ -8,7 +8,7 @@ use crate::replies::REPLIES;
 use crate::running::{MemHost, host_starting, starter};
 use crate::runs::RunRow;
 use lf_base::{Handles, MemLink, Watch};
-use node_mount::Maker;
+use node_objects::Maker;
 use run_child::Told;
 use std::alloc::Global;
 use std::io::Print;

@@ -1,6 +1,6 @@
 -- A command on a backup, by its result.
 use Rattle.std.specs.Prelude.{Result}
-use Rattle.node_mount.specs.declared.counts.Counts.{Counts}
+use Rattle.node_objects.specs.declared.counts.Counts.{Counts}
 use Rattle.litefs_tool.specs.Disks.{DiskBacks, DiskOutcome}
 use Rattle.litefs_tool.specs.Streams.{Stream}
 use Rattle.litefs_tool.specs.declared.command.Command.{Command}

@@ -7,11 +7,11 @@ use Rattle.http_exchange.specs.declared.told.Untold.TheVariants as untold
 use Rattle.lf_base.specs.declared.source.Failed.{Failed}
 use Rattle.lf_base.specs.declared.status.Status.{Status}
 use Rattle.litefs_tool.specs.steps.Failure.{status_of, name_of}
-use Rattle.node_mount.specs.declared.counts.Counts.{Counts}
+use Rattle.node_objects.specs.declared.counts.Counts.{Counts}
 use Rattle.node_mount.specs.declared.mount_fault.MountFault.{MountFault}
 use Rattle.node_mount.specs.Configuring.{ReadsConfiguration}
 use Rattle.node_mount.specs.LeaseService.{ReadsService}
-use Rattle.node_mount.specs.Making.{NetworkRose}
+use Rattle.node_objects.specs.Making.{NetworkRose}
 use Rattle.node_mount.specs.Mounting.{IsMountCause}
 use Rattle.litefs_tool.specs.Mount.{status_of_end, name_of_end}
 use Rattle.litefs_tool.specs.Asking.{AskBacks, AskOutcome, Asks}

@@ -1,5 +1,5 @@
 use Rattle.std.proofs.Common.{◌∙◌, ◌∷◌, [], refl, sym}
-use Rattle.node_mount.specs.declared.returned.Returned.TheVariants as returned
+use Rattle.node_objects.specs.declared.returned.Returned.TheVariants as returned
 use Rattle.litefs_tool.specs.Disks.{all, all_three, fewer}
 use Rattle.litefs_tool.proofs.BackingLemmas.{backs_up_by}
 use Rattle.litefs_tool.proofs.FolderLemmas.{gives_both, gives_one}

@@ -1,9 +1,9 @@
 use Rattle.std.proofs.Common.{[], ◌∷◌, ◌∙◌, sym, subst}
 use Rattle.node_mount.specs.Asking.{disk_of}
-use Rattle.node_mount.specs.Making.{gave, TakesBack}
+use Rattle.node_objects.specs.Making.{gave, TakesBack}
 use Rattle.node_mount.specs.Returns.{GivesBack}
 use Rattle.node_mount.proofs.AskLemmas.{disk_alone, disk_then}
-use Rattle.node_mount.specs.declared.returned.Returned.TheVariants as returned
+use Rattle.node_objects.specs.declared.returned.Returned.TheVariants as returned
 use Rattle.node_mount.proofs.BackLemmas.{damage_found, no_damage, one_back}
 use Rattle.node_mount.proofs.ServingLemmas.{serves_past}
 use Rattle.node_mount.proofs.mounting.mount_disk.Goals as goal

@@ -1,6 +1,6 @@
 use Rattle.std.proofs.Common.{◌∙◌, subst}
-use Rattle.node_mount.specs.Making.{TakesBack}
-use Rattle.node_mount.specs.declared.returned.Returned.TheVariants as returned
+use Rattle.node_objects.specs.Making.{TakesBack}
+use Rattle.node_objects.specs.declared.returned.Returned.TheVariants as returned
 use Rattle.node_mount.proofs.BackLemmas.{three_back, served_back}
 use Rattle.node_mount.proofs.mounting.serve_made.Goals as goal
 

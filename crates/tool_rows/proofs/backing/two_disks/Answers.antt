@@ -1,6 +1,6 @@
 use Rattle.std.proofs.Common.{◌∙◌, All, List, [], ◌∷◌, ◌++◌, ap, subst, sym}
 use Rattle.std.proofs.lemmas.List.Elements.{All-cons, All-nil}
-use Rattle.node_mount.specs.MemMaker.{IsNewDisk}
+use Rattle.node_objects.specs.MemMaker.{IsNewDisk}
 use Rattle.tool_rows.proofs.backing.two_disks.Goals as goal
 
 pub returns : goal.returns

@@ -1,8 +1,8 @@
 use Rattle.std.proofs.Common.{◌≡◌, ◌∙◌, ◌∷◌, [], List, Option, sym, subst}
-use Rattle.node_mount.specs.Making.{TakesBack, refused}
-use Rattle.node_mount.specs.declared.asked.Asked.{Asked}
-use Rattle.node_mount.specs.declared.asked.Wanted.TheVariants as wants
-use Rattle.node_mount.specs.declared.returned.Returned.TheVariants as returned
+use Rattle.node_objects.specs.Making.{TakesBack, refused}
+use Rattle.node_objects.specs.declared.asked.Asked.{Asked}
+use Rattle.node_objects.specs.declared.asked.Wanted.TheVariants as wants
+use Rattle.node_objects.specs.declared.returned.Returned.TheVariants as returned
 use Rattle.litefs_tool.specs.Disks.{one, two}
 use Rattle.litefs_tool.proofs.FolderLemmas.{gives_more, gives_one}
 use Rattle.litefs_tool.proofs.folders.Folders.take_disks.Goals as goal

@@ -1,0 +1,10 @@
+pub mod Making
+pub mod Lines
+pub mod Obstacles
+pub mod Breaking
+pub mod MemSpawn
+pub mod Dialing
+pub mod Keeping
+pub mod MemMaker
+pub mod Complaining
+pub mod Mounters
