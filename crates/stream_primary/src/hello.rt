@@ -76,7 +76,7 @@ fn ask_and_tell<S: Steps<Ask = Ask, Answer = Answer>, L: Link, C: Clock, P: Paus
     ensures worn { IfErr result (λ end. end ≡ ends.Worn → S.is_worn steps.new) }
 {
     match ask_hello(steps, session.clock, at.here, &mut session.turns) {
-        Ok(answer) => tell(session, name, at, answer, text),
+        Ok(answer) => tell(session, name, at, &answer, text),
         Err(end) => Err(end),
     }
 }
@@ -107,34 +107,34 @@ fn tell<L: Link, C, P: Pause>(
     session: &mut Session<L, C, P>,
     name: &Name,
     at: Standing,
-    answer: Answer,
+    answer: &Answer,
     text: &mut Vec<u8>,
 ) -> Result<Standing, SessionEnd>
-    ensures sent { EndsTelling name.now at answer (L.taken session.old.link.now) (L.taken session.new.link.now) (L.faults session.old.link.now)
+    ensures sent { EndsTelling name.now at answer.now (L.taken session.old.link.now) (L.taken session.new.link.now) (L.faults session.old.link.now)
         (L.faults session.new.link.now) session.new.turns result }
     ensures left { Keeps (L.left session.old.link.now) (L.left session.new.link.now) }
     ensures spent { MovesFor result session.old.turns (L.moves session.old.link.now) session.new.turns (L.moves session.new.link.now) }
     ensures borrows { Borrows session.old session.new }
     ensures clock { session.new.clock ≡ session.old.clock }
 {
-    if !goes_on(&answer) {
+    if !goes_on(answer) {
         return Err(end_stream(
             session.alloc,
             session.link,
             at.sent,
-            &answer,
+            answer,
             text,
             &mut session.turns,
         ));
     }
-    match put_words(session.alloc, name, at.sent, &answer, text) {
+    match put_words(session.alloc, name, at.sent, answer, text) {
         Ok(()) => {}
         Err(_) => return Err(SessionEnd::NoMemory),
     }
     match write_both(
         session.link,
         text.as_slice(),
-        file_of(&answer),
+        file_of(answer),
         &mut session.turns,
     ) {
         Ok(()) => {}
@@ -143,5 +143,5 @@ fn tell<L: Link, C, P: Pause>(
     if matches!(answer, Answer::Level(_)) {
         session.pause.nap();
     }
-    Ok(next(at, &answer))
+    Ok(next(at, answer))
 }
