@@ -65,6 +65,7 @@ WRONG = {
                                  'litefs.toml: fuse.dir: wanted a path, since fuse.program is there; the key is missing'),
     'folder_without_a_name': ('fuse.dir = ""\n' + RIGHT, 'litefs.toml:1: fuse.dir: wanted a path that is not empty'),
     'permit_of_no_time': (RIGHT + 'halt-ttl = 0\n', 'litefs.toml:5: lease.halt-ttl: wanted a number of milliseconds from 1 to 86400000'),
+    'bootstrap_of_a_number': (RIGHT + 'bootstrap = 1\n', 'litefs.toml:5: lease.bootstrap: wanted true or false'),
     'key_with_a_newline': (RIGHT + '"a\\nb" = true\n', 'litefs.toml:5: lease.?: wanted no key of this name'),
     'key_twice': (RIGHT + 'hostname = "h"\n', 'litefs.toml:5: wanted TOML in UTF-8'),
     'table_no_table': ('fuse = "s"\n' + RIGHT, 'litefs.toml:1: fuse: wanted a table'),
@@ -77,7 +78,7 @@ ACCEPTED = {
     'inline_tables': ('database = "app"\nhttp = { addr = "127.0.0.1:0" }\nfuse = { listen = "here" }\n'
                       'lease = { candidate = true, advertise-url = "http://h:1", hostname = "h" }\n', 'here'),
     'every_key': ('database = "app"\n[fuse]\nlisten = "s"\ndir = "m"\nprogram = "./p"\n[http]\naddr = "[::1]:0"\n[data]\ncompress = false\nretention-files = 0x10\n'
-                  '[proxy]\naddr = "127.0.0.1:0"\ntarget = "localhost:1"\n[lease]\ntype = "static"\ncandidate = true\nadvertise-url = "http://[::1]:1"\nhostname = "h"\n'
+                  '[proxy]\naddr = "127.0.0.1:0"\ntarget = "localhost:1"\n[lease]\ntype = "static"\ncandidate = true\nbootstrap = true\nadvertise-url = "http://[::1]:1"\nhostname = "h"\n'
                   'service-url = "http://h:2"\nttl = 1_000\nhalt-ttl = 2_000\n[lease.etcd]\nendpoints = ["http://h:3", "http://[::1]:3"]\nkey = "k"\n', 's'),
 }
 

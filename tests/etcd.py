@@ -6,7 +6,8 @@ node at most takes writes, and it is the one whose name and URL are in the key, 
 At most: 900 seconds.
 Seen to fail: doors of the first node behind which a renewal says ten times its time (stopped, inside, cut_off, all_gone, ended_early): a write
 at a node while another one's key stands, a commit that is not refused, writes without etcd. A build that takes a key for a lease as soon as it
-is put (ended_early): two nodes take writes. One that asks the first endpoint alone (members_killed, refuses, error): no node takes writes."""
+is put (ended_early): two nodes take writes. One that asks the first endpoint alone (members_killed, refuses, error): no node takes writes. One whose
+candidates without a database ask at once (empty_candidate): the new one is primary, and nobody has the rows."""
 import contextlib
 import functools
 import socket
@@ -17,7 +18,7 @@ from support.cluster import Nonsense, keys, standing_still
 from support.etcd import EtcdCluster
 from support.listening import Listening
 
-TURNS, TRIES = length(2, 10), 3
+TURNS, EMPTIES, TRIES = length(2, 10), length(1, 50), 3
 
 
 def over(call, *words):
@@ -191,6 +192,7 @@ def answers(handler):
 
 run(in_each_mode(('wal',), members_killed=over(members_killed), leader_stopped=over(leader_stopped), ended_early=over(ended_early),
                  all_gone=over(all_gone), primary_killed=over(primary_killed), killed=over(failovers.killed, TURNS),
+                 empty_candidate=over(failovers.empty_candidate, EMPTIES),
                  stopped=over(failovers.stopped), inside=over(failovers.inside), cut_off=over(failovers.cut_off),
                  refuses=refuses, silent=silent, nonsense=answers(Nonsense), error=answers(Refusing)),
     at_once=3)

@@ -2,20 +2,26 @@
 """Three nodes that ask a lease service which of them is primary, under real SQLite: the first candidate is; killed, stopped for
 longer than its lease, cut off from a service that is started anew or that answers nonsense, it is followed by another, and no two
 take writes under one grant. A transaction inside which the lease ends is not committed. An old primary that went on alone is brought
-over, also where it stands at the new one's position with other pages. At the end of each case all three have one position and one image.
+over, also where it stands at the new one's position with other pages. A candidate without a database lets the others go first. At the end of
+each case but the one of a node alone all three have one position and one image.
 
 At most: 900 seconds.
 Seen to fail: a service that tells a longer time than it grants (stopped, stopped_at_work, inside, cut_off), one that answers at once after
 its start (service_anew): a write at a node while another one's grant stands, a commit that is not refused. A build whose followers say
-nothing of their last file, given the cases of a fork: the old primary stays apart."""
+nothing of their last file, given the cases of a fork: the old primary stays apart. One whose candidates without a database ask at once
+(empty_candidate): the new one is primary."""
 import functools
 import socket
+import time
 
-from support import Cluster, Node, Skipped, configuration, failovers, holds, in_each_mode, in_mode, length, run, same, until
-from support.cluster import Server, keys, standing_still, takes
+from support import Cluster, Node, Service, Skipped, configuration, failovers, holds, in_each_mode, in_mode, length, run, same, until
+from support.cluster import Door, Server, keys, made, standing_still, takes
 
 TURNS = length(2, 10)
+EMPTIES = length(1, 50)
 EITHER = length(('wal',), ('delete', 'wal'))
+WAITS = ('lease: this node has no database: it asks to be primary once nobody has led for three times lease.ttl '
+         '(lease.bootstrap = true asks at once)')
 
 
 def over(call, *words):
@@ -70,6 +76,24 @@ def nonsense(mode):
             server.shutdown()
         cluster.service.start()
         cluster.ends(kept)
+
+
+def alone(mode):
+    """A candidate without a database that doesn't begin the cluster is alone: it says once that it waits, and is primary after three leases'
+    time without one. Started anew, with a database, it says nothing more and doesn't wait."""
+    with Service(ttl=2000) as service, Door(service) as door, Node(service=door) as node:
+        began = time.monotonic()
+        until(lambda: made(node, mode), 'it takes writes')
+        holds(time.monotonic() >= began + 3 * service.ttl / 1000, 'it has waited')
+        waits = [it for it in node.lines() if it.startswith('lease: ')]
+        same(waits, [WAITS], 'the line')
+        node.kill()
+        until(lambda: service.info() == {}, 'its lease has ended')
+        began = time.monotonic()
+        node.start()
+        until(lambda: takes(node, 'create table if not exists a(x)'), 'it takes writes again')
+        holds(time.monotonic() < began + service.ttl / 1000, 'it has not waited')
+        same([it for it in node.lines() if it.startswith('lease: ')], [WAITS], 'the line')
 
 
 def forked(mode):
@@ -138,5 +162,6 @@ def says_last_file():
 run({**in_each_mode(('delete', 'wal'), killed=over(failovers.killed, TURNS), stopped=over(failovers.stopped),
                     stopped_at_work=over(failovers.stopped_at_work, length(1, 10)), inside=over(failovers.inside), forked=forked,
                     forked_apart=forked_apart),
-     **in_each_mode(EITHER, service_anew=service_anew, nonsense=nonsense, broken=broken),
+     **in_each_mode(EITHER, service_anew=service_anew, nonsense=nonsense, broken=broken, alone=alone,
+                    empty_candidate=over(failovers.empty_candidate, EMPTIES)),
      **in_each_mode(length((), EITHER), service_stopped=service_stopped, cut_off=over(failovers.cut_off))}, at_once=4)

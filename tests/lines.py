@@ -215,7 +215,7 @@ def still():
 
 def gives_lease_back():
     """A primary whose store broke gives its lease back before it ends."""
-    with small_disk('size=1m') as disk, Granting() as service, Node(folder=disk.folder, service=service) as node:
+    with small_disk('size=1m') as disk, Granting() as service, Node(folder=disk.folder, service=service, bootstrap=True) as node:
         until(lambda: told_last(node, 'primary'), 'it is primary')
         made = until(lambda: taking(node), 'it takes writes')
         service.waits = 1

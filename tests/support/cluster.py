@@ -20,7 +20,7 @@ from .workload import insert
 
 
 class Cluster:
-    """The first two are candidates. The first is primary and has a table t(a, b, c); all are level. Each reaches the service by a door
+    """The first two are candidates, and the first begins the cluster: it is primary and has a table t(a, b, c); all are level. Each reaches the service by a door
     of its own. `keep`: how many files each log has. `folder`: where the first runs."""
 
     def __init__(self, mode, keep=KEEP_ALL, folder=None):
@@ -29,7 +29,7 @@ class Cluster:
         try:
             self.service = self.stack.enter_context(self.makes_service())
             self.doors = {}
-            self.nodes = [self.node(True, keep, folder), self.node(True, keep), self.node(False, keep)]
+            self.nodes = [self.node(True, keep, folder, bootstrap=True), self.node(True, keep), self.node(False, keep)]
             self.begin(mode)
         except BaseException:
             self.stack.close()
@@ -47,9 +47,10 @@ class Cluster:
     def makes_door(self):
         return Door(self.service)
 
-    def node(self, candidate, keep, folder=None):
+    def node(self, candidate, keep, folder=None, bootstrap=False):
         door = self.stack.enter_context(self.makes_door())
-        node = self.stack.enter_context(Node(service=door, candidate=candidate, keep=keep, folder=folder, starts=False))
+        node = self.stack.enter_context(Node(service=door, candidate=candidate, bootstrap=bootstrap, keep=keep, folder=folder,
+                                              starts=False))
         self.doors[node] = door
         return node
 

@@ -1,11 +1,13 @@
 """What becomes of three nodes whose primary is killed, stands still or is cut off, whichever service says who is primary."""
 import contextlib
 import os
+import shutil
 import sqlite3
 
 from .cases import holds, refuses, same
 from .cluster import keys, standing_still
 from .mounted import small_disk
+from .node import leased
 from .sqlite import connect
 from .waiting import until
 from .workload import insert
@@ -26,6 +28,30 @@ def killed(cluster, turns):
         cluster.level(heir, without=primary)
         primary.start()
         cluster.refuses(primary)
+        cluster.ends(kept)
+
+
+def empty_candidate(cluster, turns):
+    """A candidate that has no database is started at the moment of a kill -9 of the primary, just before and just after: the one that is level
+    leads, every row is there, and the new one follows."""
+    third = cluster.nodes[2]
+    third.configure(leased(third.port, cluster.doors[third], True, False))
+    for turn in range(turns):
+        primary = cluster.follows()
+        heir = cluster.heir(primary)
+        third.kill()
+        shutil.rmtree(third.data, ignore_errors=True)
+        primary.level(heir)
+        kept = keys(primary)
+        first, last = (third.launch, primary.kill) if turn % 2 else (primary.kill, third.launch)
+        first()
+        last()
+        until(lambda: cluster.primary() not in (None, primary), 'another node is primary')
+        same(cluster.primary() is heir, True, 'the candidate that is level is primary')
+        same(cluster.follows(primary) is heir, True, 'it takes writes')
+        heir.level(third)
+        holds(kept <= keys(heir), 'every row is there')
+        primary.start()
         cluster.ends(kept)
 
 

@@ -26,6 +26,7 @@ hostname = "db1"
 '''
 # what a node says of its lease that asks a service for it, behind which service that is
 LEASED = '''candidate = {candidate}
+bootstrap = {bootstrap}
 advertise-url = "http://127.0.0.1:{port}"
 hostname = "{host}"
 ttl = {ttl}
@@ -40,25 +41,28 @@ def configuration(port, primary=None, keep=KEEP_ALL, database='app'):
                                 candidate='false' if primary else 'true')
 
 
-def leased(port, service, candidate, keep=KEEP_ALL, database='app'):
+def leased(port, service, candidate, bootstrap, keep=KEEP_ALL, database='app'):
     """The same of a node that asks the lease service which node is primary."""
     before = configuration(port, None, keep, database).split('type = ')[0]
-    return before + service.told + LEASED.format(candidate=str(candidate).lower(), port=port, host=f'db{port}', ttl=service.ttl)
+    return before + service.told + LEASED.format(candidate=str(candidate).lower(), bootstrap=str(bootstrap).lower(), port=port,
+                                                 host=f'db{port}', ttl=service.ttl)
 
 
 class Node(Running):
-    """A primary, or a replica of the node `following`; with a lease `service`, either, and a primary only where it is a `candidate`.
+    """A primary, or a replica of the node `following`; with a lease `service`, either, and a primary only where it is a `candidate`, which
+    waits for the others where it has no database, but with `bootstrap`.
 
     It keeps more files than a script commits, so that its log can be applied from the first on."""
     word, called = 'mount', 'node'
 
-    def __init__(self, following=None, keep=KEEP_ALL, database='app', folder=None, program=None, starts=True, service=None, candidate=True):
+    def __init__(self, following=None, keep=KEEP_ALL, database='app', folder=None, program=None, starts=True, service=None, candidate=True,
+                 bootstrap=False):
         super().__init__(folder, program)
         self.database = database
         self.keep = keep
         self.socket = os.path.join(self.folder, f'{database}.sock')
         self.data = os.path.join(self.folder, 'dbs', database)
-        self.configure(leased(self.port, service, candidate, keep, database) if service else
+        self.configure(leased(self.port, service, candidate, bootstrap, keep, database) if service else
                        configuration(self.port, following and following.port, keep, database))
         if starts:
             self.begin()

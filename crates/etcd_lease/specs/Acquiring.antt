@@ -35,9 +35,10 @@ abbrev pub is_own : Option Held → Option KeyValue → Bool
 is_own None key = false
 is_own (Some held) key = is_held held key
 
--- what a reply tells of who is primary: nobody of a key that stands for no lease yet
+-- what a reply tells of who is primary: nobody is where there is no key, or one that stands for no lease yet
 abbrev pub Informs : Option Held → Option Said → Learned → Type 0
-Informs held (Some (said.Key (Some key))) told = MatchBool (is_own held (Some key)) (told ≡ learned.Nothing) (TellsWho key.value told)
+Informs held (Some (said.Key (Some key))) told = MatchBool (is_own held (Some key)) (told ≡ learned.Nobody) (TellsWho key.value told)
+Informs held (Some (said.Key None)) told = told ≡ learned.Nobody
 Informs held _ told = told ≡ learned.Nothing
 
 -- the same, unless memory ran out

@@ -58,12 +58,12 @@ fn informed(alloc: Global, held: Option<Held>, said: &Option<Said>) -> Result<Le
         Some(Said::Key(key)) => match key {
             Some(value) => {
                 if is_own(held, key) {
-                    Ok(Learned::Nothing)
+                    Ok(Learned::Nobody)
                 } else {
                     who(alloc, &value.value)
                 }
             }
-            None => Ok(Learned::Nothing),
+            None => Ok(Learned::Nobody),
         },
         _ => Ok(Learned::Nothing),
     }

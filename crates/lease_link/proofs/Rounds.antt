@@ -1,5 +1,5 @@
 -- A round put together of what its calls did.
-use Rattle.std.proofs.Common.{◌≡◌, ◌≢◌, ◌⊎◌, inl, inr, ℕ, Bool, IsTrue, List, [], ◌∷◌, ◌++◌, Option, Result, Ok, Err, OnOk, OnErr, IfErr, refl, sym, ap, ◌∙◌, subst, append_assoc}
+use Rattle.std.proofs.Common.{◌≡◌, ◌⊎◌, inl, inr, ℕ, Bool, IsTrue, List, [], ◌∷◌, ◌++◌, Option, Result, Ok, Err, OnOk, OnErr, IfErr, refl, sym, ap, ◌∙◌, subst, append_assoc}
 use Rattle.turn_desk.specs.declared.history.Entry.{Entry}
 use Rattle.turn_desk.specs.History.{entry}
 use Rattle.link_session.specs.Stands.{Asker}
@@ -13,7 +13,7 @@ use Rattle.lease_link.specs.declared.learned.Learned.TheVariants as learned
 use Rattle.lease_link.specs.declared.service.Service.{Ghosts as ServiceGhosts}
 use Rattle.lease_link.specs.declared.unlearned.Unlearned.{Unlearned}
 use Rattle.lease_link.specs.Asking.{DialStand}
-use Rattle.lease_link.specs.Keeping.{AreNews, Asks, AsksService, Concludes, EndsIdle, EndsTell, EndsUntaken, IsNews, IsRound, KeepStand, NewsOf, Serves, concluded, done, end_of, ended_by, keep_stand, unconcluded, untaken}
+use Rattle.lease_link.specs.Keeping.{AreNews, Asks, AsksService, Concludes, EndsIdle, EndsTell, EndsUntaken, HasNews, IsNews, IsRound, KeepStand, NewsOf, Serves, concluded, done, end_of, ended_by, keep_stand, unconcluded, untaken}
 
 -- the first news of a round, or its last
 pub first_news : {Q A : Type 0} (who : Asker) (at : ℕ → Q) (now : ℕ) (news : Q) (old new : List (Entry Q A)) → IsTrue (who.may now) → news ≡ at now
@@ -24,12 +24,14 @@ first_news who at now news old new given same asks =
 -- nothing was asked
 pub idle_end : (worn : Type 0) (turns budget : ℕ) (end : KeepEnd) → turns ≡ budget → EndsTell worn turns end → EndsIdle budget end
 idle_end worn turns budget (ends.Done term url) same e = absurd e
+idle_end worn turns budget ends.Nobody same e = absurd e
 idle_end worn turns budget ends.Turns same e = sym same ∙ e
 idle_end worn turns budget ends.Worn same e = tt
 idle_end worn turns budget ends.NoMemory same e = tt
 
 pub idle_loss : (worn : Type 0) (turns budget : ℕ) (end : KeepEnd) → turns ≡ budget → EndsTell worn turns end → (budget ≡ 0) ⊎ worn
 idle_loss worn turns budget (ends.Done term url) same e = absurd e
+idle_loss worn turns budget ends.Nobody same e = absurd e
 idle_loss worn turns budget ends.Turns same e = inl (sym same ∙ e)
 idle_loss worn turns budget ends.Worn same e = inr e
 idle_loss worn turns budget ends.NoMemory same e = absurd e
@@ -37,12 +39,14 @@ idle_loss worn turns budget ends.NoMemory same e = absurd e
 -- the desk was found worn
 pub worn_end : (worn : Type 0) (turns : ℕ) (end : KeepEnd) → EndsTell worn turns end → end ≡ ends.Worn → worn
 worn_end worn turns (ends.Done term url) e is = absurd e
+worn_end worn turns ends.Nobody e is = absurd e
 worn_end worn turns ends.Turns e is = absurd (cc is)
 worn_end worn turns ends.Worn e is = e
 worn_end worn turns ends.NoMemory e is = absurd e
 
 untaken_end : (worn : Type 0) (turns : ℕ) (end : KeepEnd) → EndsTell worn turns end → EndsUntaken end
 untaken_end worn turns (ends.Done term url) e = absurd e
+untaken_end worn turns ends.Nobody e = absurd e
 untaken_end worn turns ends.Turns e = tt
 untaken_end worn turns ends.Worn e = tt
 untaken_end worn turns ends.NoMemory e = absurd e
@@ -52,19 +56,10 @@ pub worn_told : (worn : Type 0) (turns : ℕ) (told : Result (Unit {0}) KeepEnd)
 worn_told worn turns (Ok x) term url end cause same is = absurd (cc (same, is))
 worn_told worn turns (Err e) term url end cause same is = worn_end worn turns e cause (sym same ∙ is)
 
-pub some_granted : (term ttl : ℕ) → learned.Granted term ttl ≢ learned.Nothing
-some_granted term ttl e = cc
-
-pub some_lost : learned.Lost ≢ learned.Nothing
-some_lost e = cc
-
-pub some_primary : (host url : List ℕ) → learned.Primary host url ≢ learned.Nothing
-some_primary host url e = cc
-
 -- news of what was learned were told, or not
 pub concludes_by : {B Q A : Type 0} (b : BringingGhosts B Q) (who : Asker) (own : Grant) (l : Learned) (at : ℕ → Q) (now : ℕ) (news : Q) (worn : Type 0) (turns : ℕ)
     (told : Result (Unit {0}) KeepEnd) (old new : List (Entry Q A)) (term : ℕ) (url : Option (List ℕ)) (end : KeepEnd)
-    → ((entries : List (Entry Q A)) → AreNews who at entries → NewsOf b who l entries) → l ≢ learned.Nothing → end_of own l ≡ ends.Done term url
+    → ((entries : List (Entry Q A)) → AreNews who at entries → NewsOf b who l entries) → HasNews l → end_of own l ≡ ends.Done term url
     → IsTrue (who.may now) → news ≡ at now → OnOk told (Asks who.caller news old new) → OnErr told (new ≡ old) → IfErr told (EndsTell worn turns)
     → end ≡ ended_by told term url → Concludes b who own l old new end
 concludes_by b who own l at now news worn turns (Ok x) old new term url end are some ends_so given same asks still cause is =

@@ -16,12 +16,13 @@ pub record DialStand : Type 0 where
 abbrev pub dial_stand : Option (List Dial) → ℕ → DialStand
 dial_stand dials faults = record { dials = dials; faults = faults }
 
--- what can be learned of what was asked: a term, of one that asks for one; the same term, or its loss, of one that renews it; who is primary
+-- what can be learned of what was asked: a term, of one that asks for one; the same term, or its loss, of one that renews it; who is primary, or that nobody is
 abbrev pub Fits : LeaseAsk → Learned → Type 0
 Fits (ask.Acquire node url host) (learned.Granted term ttl) = Unit {0}
 Fits (ask.Renew node own) (learned.Granted term ttl) = term ≡ own
 Fits (ask.Renew node own) learned.Lost = Unit {0}
 Fits ask.Info (learned.Primary host url) = Unit {0}
+Fits ask.Info learned.Nobody = Unit {0}
 Fits _ learned.Nothing = Unit {0}
 Fits _ _ = ⊥
 

@@ -47,13 +47,21 @@ abbrev pub NewsOf : {B Q A : Type 0} → BringingGhosts B Q → Asker → Learne
 NewsOf b who (learned.Granted term ttl) entries = AreNews who (λ now. b.granted_at now term ttl) entries
 NewsOf b who learned.Lost entries = AreNews who b.lost_at entries
 NewsOf b who (learned.Primary host url) entries = AreNews who (λ now. b.primary_at now host) entries
+NewsOf b who learned.Nobody entries = entries ≡ []
 NewsOf b who learned.Nothing entries = entries ≡ []
+
+-- there is news of it
+abbrev pub HasNews : Learned → Type 0
+HasNews learned.Nobody = ⊥
+HasNews learned.Nothing = ⊥
+HasNews _ = Unit {0}
 
 -- how a round ends in which this was learned: with the term that the node has then, and where the primary is found
 abbrev pub end_of : Grant → Learned → KeepEnd
 end_of own (learned.Granted term ttl) = ends.Done term None
 end_of own learned.Lost = ends.Done 0 None
 end_of own (learned.Primary host url) = ends.Done own.term (Some url)
+end_of own learned.Nobody = ends.Nobody
 end_of own learned.Nothing = ends.Done own.term None
 
 -- ---- the round
@@ -61,6 +69,7 @@ end_of own learned.Nothing = ends.Done own.term None
 -- why a round ends before anything was asked
 abbrev pub EndsIdle : ℕ → KeepEnd → Type 0
 EndsIdle budget (ends.Done term url) = ⊥
+EndsIdle budget ends.Nobody = ⊥
 EndsIdle budget ends.Turns = budget ≡ 0
 EndsIdle budget _ = Unit {0}
 
@@ -88,7 +97,7 @@ EndsUntaken _ = ⊥
 -- what was learned was told to the node, and the round ends so; or it was not
 pub data Concludes {B Q A : Type 0} (b : BringingGhosts B Q) (who : Asker) (own : Grant) (l : Learned) (old new : List (Entry Q A)) (end : KeepEnd) : Type 0 where
   concluded : (news : List (Entry Q A)) → NewsOf b who l news → new ≡ old ++ news → end ≡ end_of own l → Concludes b who own l old new end
-  unconcluded : l ≢ learned.Nothing → new ≡ old → EndsUntaken end → Concludes b who own l old new end
+  unconcluded : HasNews l → new ≡ old → EndsUntaken end → Concludes b who own l old new end
 
 -- how a round ends whose news were told, or not
 abbrev pub ended_by : Result (Unit {0}) KeepEnd → ℕ → Option (List ℕ) → KeepEnd
@@ -110,7 +119,7 @@ pub data IsRound {B Q A V : Type 0} (b : BringingGhosts B Q) (s : ServiceGhosts 
   unasked : new ≡ old → EndsIdle budget end → IsRound b s who tell asked own budget old new end
   unheard : (why : Unlearned) → AsksService b s who tell asked (Err why) old new [] → end ≡ end_untold why
       → IsRound b s who tell asked own budget old new end
-  untaken : (l : Learned) → AsksService b s who tell asked (Ok l) old new [] → l ≢ learned.Nothing
+  untaken : (l : Learned) → AsksService b s who tell asked (Ok l) old new [] → HasNews l
       → EndsUntaken end → IsRound b s who tell asked own budget old new end
   done : (l : Learned) (news : List (Entry Q A)) → AsksService b s who tell asked (Ok l) old new news
       → NewsOf b who l news → end ≡ end_of own l → IsRound b s who tell asked own budget old new end

@@ -22,11 +22,12 @@ pub record IsReply (body : List ℕ) (said : LeaseReply) : Type 0 where
   pub fits : FitsReply said
   pub json : IsJson body (object (reply_members said))
 
--- what a reply that grants tells: the term and how long it lasts, or who is primary. Another reply than to what was asked tells nothing
+-- what a reply that grants tells: the term and how long it lasts, or who is primary, if anybody is. Another reply than to what was asked tells nothing
 abbrev pub granted : LeaseAsk → LeaseReply → Learned
 granted (ask.Acquire node url host) (reply.Grant its_host term ttl its_url) = learned.Granted term ttl
 granted (ask.Renew node term) (reply.Renewed ttl) = learned.Granted term ttl
 granted ask.Info (reply.Grant host term ttl url) = learned.Primary host url
+granted ask.Info reply.Empty = learned.Nobody
 granted _ _ = learned.Nothing
 
 -- what a refusal tells: a term that is not renewed is lost

@@ -122,6 +122,10 @@ fn conclude<
             let told = tell(steps, bring.primary(now, host), &mut round.turns);
             ended(told, own.term, Some(url), round.pause)
         }
+        Learned::Nobody => {
+            round.pause.nap();
+            KeepEnd::Nobody
+        }
         Learned::Nothing => ended(Ok(()), own.term, None, round.pause),
     }
 }

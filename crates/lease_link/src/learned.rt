@@ -9,6 +9,8 @@ pub enum Learned {
     Lost,
     /// This host is primary, and is found there.
     Primary { host: Text, url: Text },
+    /// Nobody is primary.
+    Nobody,
     /// Nothing.
     Nothing,
 }

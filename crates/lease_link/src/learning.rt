@@ -93,6 +93,7 @@ fn informed(said: LeaseReply) -> Learned
 {
     match said {
         LeaseReply::Grant { host, url, .. } => Learned::Primary { host, url },
+        LeaseReply::Empty => Learned::Nobody,
         _ => Learned::Nothing,
     }
 }

@@ -194,6 +194,7 @@ fn ask_of(rt: impl Copy + Abort, alloc: Global, asked: Asked) -> LeaseAsk {
 #[derive(Clone, Copy, Debug, PartialEq, Eq)]
 enum Heard {
     Nothing,
+    Nobody,
     Granted { term: u64, ttl: u64 },
     Lost,
     Primary { db2: bool },
@@ -204,6 +205,7 @@ enum Heard {
 fn heard_of(heard: Result<Learned, Unlearned>) -> Heard {
     match heard {
         Ok(Learned::Nothing) => Heard::Nothing,
+        Ok(Learned::Nobody) => Heard::Nobody,
         Ok(Learned::Granted { term, ttl }) => Heard::Granted { term, ttl },
         Ok(Learned::Lost) => Heard::Lost,
         Ok(Learned::Primary { host, url }) => Heard::Primary {

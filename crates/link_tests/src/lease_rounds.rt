@@ -48,6 +48,7 @@ const FOLLOWER: Who = Who {
 enum End {
     /// `db2` is whether the url is that of the second node, if there is one.
     Done { term: u64, db2: Option<bool> },
+    Nobody,
     Turns,
     Other,
 }
@@ -58,6 +59,7 @@ fn end_of(end: KeepEnd) -> End {
             term,
             db2: url.map(|url| url.as_str() == "http://db2:20203"),
         },
+        KeepEnd::Nobody => End::Nobody,
         KeepEnd::Turns => End::Turns,
         KeepEnd::Worn | KeepEnd::NoMemory => End::Other,
     }

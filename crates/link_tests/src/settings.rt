@@ -164,6 +164,28 @@ fn keys_beside_are_read(rt: HostRuntime) {
     }
 }
 
+const BOOTSTRAPS: &[(&str, bool)] = &[
+    ("", false),
+    ("candidate = true\n", false),
+    ("bootstrap = true\n", true),
+    ("bootstrap = false\n", false),
+    (
+        "type = \"service\"\nservice-url = \"http://h:1\"\ncandidate = true\nbootstrap = true\n",
+        true,
+    ),
+];
+
+/// Whether a node asks to be primary at once where it has no database.
+#[test]
+fn whether_a_node_begins_a_cluster(rt: HostRuntime) {
+    let alloc = rt.alloc();
+    for (more, said) in BOOTSTRAPS {
+        let text = with_required(rt, alloc, more);
+        let settings = read_settings(alloc, text.as_bytes()).expect(&rt, "settings");
+        same(rt, (*more, settings.lease.bootstrap), (*more, *said));
+    }
+}
+
 const SERVICE: &str =
     "type = \"service\"\nservice-url = \"http://lease:20202\"\ncandidate = true\n";
 
@@ -327,7 +349,7 @@ const SERVICES: &[(&str, &str)] = &[
     ),
     ("http.addr = \"db:1\"\nlease.ttl = 7\n", "db:1 7"),
     (
-        "[lease]\ntype = \"service\"\ncandidate = true\n",
+        "[lease]\ntype = \"service\"\ncandidate = true\nbootstrap = true\n",
         ":20202 10000",
     ),
     (
@@ -371,6 +393,7 @@ const NO_SERVICES: &[&str] = &[
     "data.retention-files = 0\n",
     "lease.type = \"other\"\n",
     "lease.candidate = 1\n",
+    "lease.bootstrap = 1\n",
     "lease.advertise-url = \"h:1\"\n",
     "lease.hostname = 1\n",
     "lease.service-url = \"h:1\"\n",
@@ -434,6 +457,8 @@ const FURTHER: &[&str] = &[
     "type = 1\n",
     "candidate = 1\n",
     "candidate = \"true\"\n",
+    "bootstrap = 1\n",
+    "bootstrap = \"true\"\n",
     "ttl = 0\n",
     "ttl = 86400001\n",
     "ttl = -1\n",
@@ -580,6 +605,10 @@ const COMPLAINTS: &[(&str, &str)] = &[
     (
         "ttl = 0\ncandidate = 1\n",
         "lease.candidate 6 true or false",
+    ),
+    (
+        "ttl = 0\nbootstrap = 1\n",
+        "lease.bootstrap 6 true or false",
     ),
     ("hostname.a = 1\n", "none 5 TOML in UTF-8"),
     ("hostname = \"twice\"\n", "none 5 TOML in UTF-8"),

@@ -10,7 +10,7 @@ use Rattle.node_mount.specs.declared.following.Primary.{Primary}
 use Rattle.node_mount.specs.declared.keeper.Keeper.{Keeper}
 use Rattle.node_mount.specs.declared.lease_rounds.Rounds.{Rounds}
 use Rattle.node_mount.specs.declared.wish.Wish.{Wish}
-use Rattle.node_mount.specs.Leasing.{naps_of}
+use Rattle.node_mount.specs.Leasing.{first_patience, naps_of}
 use Rattle.node_mount.specs.Sources.{IsSource, NamesNone}
 use Rattle.node_mount.specs.Standing.{is_granted, stands_as_primary}
 
@@ -28,9 +28,9 @@ IsFirst lease (Some address) = (lease.lease_type ≡ lease_type.Static) × (leas
 abbrev pub own_of : Settings → ℕ → Grant
 own_of settings node = record { node = node; url = settings.lease.advertise_url; host = settings.lease.hostname; term = 0; until = 0 }
 
--- a node without a number of its own never asks to be primary
+-- a node without a number of its own never asks to be primary; before its first round it was named nobody by none
 abbrev pub first_wish : Settings → ℕ → Wish
-first_wish settings node = record { candidate = settings.lease.candidate && not (node == 0); none_named = false }
+first_wish settings node = record { candidate = settings.lease.candidate && not (node == 0); patience = first_patience settings.lease.bootstrap settings.lease.ttl; unnamed = 0; asked = false }
 
 -- what asks for a node's lease
 pub record IsKeeper {T C : Type 0} (settings : Settings) (node : ℕ) (keeper : Keeper T C) : Type 0 where

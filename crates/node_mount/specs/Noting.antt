@@ -20,6 +20,10 @@ not_reached_line address = codes "primary not reached at " ++ shown address
 abbrev pub no_answer_line : (address : List ℕ) → List ℕ
 no_answer_line address = codes "lease: " ++ shown address ++ codes " gave no answer"
 
+-- a candidate without a database waits before it asks to be primary
+abbrev pub waits_line : List ℕ
+waits_line = shown (codes "lease: this node has no database: it asks to be primary once nobody has led for three times lease.ttl (lease.bootstrap = true asks at once)")
+
 -- the line begins so
 abbrev pub BeginsWith : List ℕ → List ℕ → Type 0
 BeginsWith line front = (rest : List ℕ) × (line ≡ front ++ rest)

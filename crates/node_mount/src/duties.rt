@@ -8,7 +8,7 @@ use crate::following::Primary;
 use crate::keeper::Keeper;
 use crate::lease_rounds::Rounds;
 use crate::notes::Notes;
-use crate::patience::naps_of;
+use crate::patience::{first_patience, naps_of};
 use crate::sources::source_of;
 use crate::to_primary::ToPrimary;
 use crate::wish::Wish;
@@ -167,6 +167,7 @@ fn keeper_of<T: Drop, C: Copy>(
         source,
         own,
         wish: first_wish(settings, node),
+        notes: notes.another()?,
     }))
 }
 
@@ -175,7 +176,9 @@ fn first_wish(settings: &Settings, node: u64) -> Wish
 {
     Wish {
         candidate: settings.lease.candidate && node != 0,
-        none_named: false,
+        patience: first_patience(&settings.lease),
+        unnamed: 0,
+        asked: false,
     }
 }
 

@@ -1,4 +1,5 @@
 use crate::lease_source::LeaseSource;
+use crate::notes::Notes;
 use crate::wish::Wish;
 use lease_core::Grant;
 
@@ -10,4 +11,6 @@ pub struct Keeper<T, C> {
     /// The node's own, with the term that it has, 0 for none.
     pub own: Grant,
     pub wish: Wish,
+    /// Where it notes that it waits.
+    pub notes: Notes,
 }

@@ -6,13 +6,14 @@ ghost use Rattle.txn_log.specs.declared.fault.StoreFault.TheVariants as faults;
 ghost use Rattle.turn_desk.specs.Seats.{IsOf};
 
 use crate::board::Board;
+use crate::ending::info_of;
 use crate::keeper::Keeper;
 use crate::lease_news::ToNode;
 use crate::means::{BUDGET, Means};
 use crate::place::Place;
 use crate::posting::{Posting, posted_by};
 use crate::sessions::LINKS;
-use crate::wish::term_after;
+use crate::wish::{has_database, term_after};
 use crate::work::Work;
 use lease_core::Grant;
 use lease_link::{KeepEnd, Round, give_up_lease, keep_lease};
@@ -109,7 +110,7 @@ fn round<
     }
     match end {
         // It had one nap.
-        KeepEnd::Done { .. } => naps.saturating_sub(1),
+        KeepEnd::Done { .. } | KeepEnd::Nobody => naps.saturating_sub(1),
         _ => *naps,
     }
 }
@@ -128,11 +129,31 @@ fn keep<
     keeper: &mut Keeper<T, Q>,
     board: &Board,
 ) -> KeepEnd {
-    let end = keep_by_seat(means, &*place.desk, &mut place.seat, keeper);
+    let has_database = has_database_now(means, place, keeper);
+    let asks = keeper.wish.asks_to_be(has_database);
+    let end = keep_by_seat(means, &*place.desk, &mut place.seat, keeper, asks);
     post(&means.rt, means.alloc, board, &keeper.own, &end);
-    keeper.wish = keeper.wish.after(keeper.own.term, &end);
+    keeper.wish = keeper.wish.after(asks, &end);
     keeper.own.term = term_after(keeper.own.term, &end);
+    if keeper.wish.begins_to_wait(has_database) {
+        keeper.notes.waits_for_lease(&means.rt);
+    }
     end
+}
+
+/// Whether a node that may ask to be primary has a database. One that may not, or has a term, isn't asked.
+fn has_database_now<R: Handles + Copy, K: Machine<Ask = Ask, Answer = Answer>, T, Q, C: Clock, P>(
+    means: &mut Means<R, C, P>,
+    place: &mut Place<K>,
+    keeper: &Keeper<T, Q>,
+) -> bool {
+    if !keeper.wish.candidate || keeper.own.term != 0 {
+        return false;
+    }
+    match info_of(means, place) {
+        Some(info) => has_database(&info),
+        None => false,
+    }
 }
 
 /// The same by a seat of a desk.
@@ -148,11 +169,11 @@ fn keep_by_seat<
     desk: &Desk<K>,
     seat: &mut Seat<K>,
     keeper: &mut Keeper<T, Q>,
+    asks: bool,
 ) -> KeepEnd
     requires { IsOf seat.old desk.now }
     ensures { IsOf seat.new desk.now }
 {
-    let candidate = keeper.wish.asks_to_be();
     let rt = means.rt;
     let mut at = AtSeat {
         rt: &rt,
@@ -167,7 +188,7 @@ fn keep_by_seat<
         pause: &mut means.pause,
         turns: Turns::new(BUDGET),
     };
-    keep_lease(&mut at, &mut round, &ToNode, &keeper.own, candidate)
+    keep_lease(&mut at, &mut round, &ToNode, &keeper.own, asks)
 }
 
 /// Writes on the board what a round tells. Where memory runs out it stays.

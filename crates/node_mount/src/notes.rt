@@ -1,6 +1,6 @@
 //! What the jobs of a node note, for the one that tells lines.
 use crate::stream_notes::{begins_line, ends_line, not_reached_line};
-use crate::to_notes::no_answer_line;
+use crate::to_notes::{no_answer_line, waits_line};
 use lf_base::{NoMemory, Text};
 use node_figures::Tally;
 use node_objects::Line;
@@ -39,7 +39,7 @@ pub enum NoteKind {
     Mounts,
     /// It ended, or can't be started.
     Unmounts,
-    /// An endpoint of a cluster that grants leases gave no answer. Several fail in turn.
+    /// An endpoint of a cluster that grants leases gave no answer, and several fail in turn; or a node waits before it asks for one.
     Lease,
 }
 
@@ -93,6 +93,11 @@ impl Notes {
     /// The endpoint of a cluster at this address gave no answer.
     pub fn no_answer(&self, rt: &impl Wait, address: &Text) {
         self.put_line(rt, NoteKind::Lease, no_answer_line(self.alloc, address));
+    }
+
+    /// A candidate without a database waits before it asks to be primary.
+    pub fn waits_for_lease(&self, rt: &impl Wait) {
+        self.put_line(rt, NoteKind::Lease, waits_line(self.alloc));
     }
 
     fn put_line(&self, rt: &impl Wait, kind: NoteKind, line: Result<Line, NoMemory>) {

@@ -1,6 +1,6 @@
 //! For how long a node waits for others.
 ghost use Rattle.std.specs.Prelude.{◌≡◌};
-ghost use Rattle.node_mount.specs.Leasing.{following_patience as follows_for, lease_patience as asks_for, naps_of as naps, watcher_naps as watcher_naps_of};
+ghost use Rattle.node_mount.specs.Leasing.{first_patience as first, following_patience as follows_for, lease_patience as asks_for, naps_of as naps, watcher_naps as watcher_naps_of};
 
 use node_settings::{LeaseSettings, LeaseType};
 
@@ -33,6 +33,17 @@ pub fn naps_of(ttl: u64) -> u64
     ensures { result ≡ naps ttl }
 {
     (ttl / 1_000).min(20).max(1)
+}
+
+/// How many rounds that were named nobody a candidate without a database waits for: those of three leases, by their naps
+/// of 50 milliseconds alone, and one where it begins a cluster.
+pub fn first_patience(lease: &LeaseSettings) -> u64
+    ensures { result ≡ first lease.now.bootstrap lease.now.ttl }
+{
+    if lease.bootstrap {
+        return 1;
+    }
+    3 * lease.ttl.div_ceil(50 * naps_of(lease.ttl))
 }
 
 /// The naps of one of so many watchers of events between two looks: one more for each ten of them, so that

@@ -32,7 +32,7 @@ pub fn posted_by(alloc: Global, own: &Grant, end: &KeepEnd) -> Result<Posting, N
                 Ok(Posting::Nobody)
             }
         }
-        KeepEnd::Turns | KeepEnd::Worn | KeepEnd::NoMemory => Ok(Posting::AsBefore),
+        _ => Ok(Posting::AsBefore),
     }
 }
 

@@ -213,6 +213,7 @@ kept_etcd t keys brings endpoints key =
     (p.0, subst (λ (x : Option (List (List ℕ))). IsEtcdTable t x (etcd_key_of p.0)) (sym p.1) (subst (λ (y : Option (List ℕ)). IsEtcdTable t n.0 y) (sym p.2) (record { keys = keys; some_endpoints = n.1; a_key = k.1 })))
 
 kept_lease : (t : Members) → HasOnly lease_keys t → Allows IsLeaseType (get_member (codes "type") t) → Allows IsFlag (get_member (codes "candidate") t)
+    → Allows IsFlag (get_member (codes "bootstrap") t)
     → IsSome (get_member (codes "advertise-url") t) → Allows IsUrlText (get_member (codes "advertise-url") t)
     → IsSome (get_member (codes "hostname") t) → Allows IsText (get_member (codes "hostname") t)
     → Allows IsUrlText (get_member (codes "service-url") t) → (IsService (get_member (codes "type") t) → IsSome (get_member (codes "service-url") t))
@@ -220,19 +221,21 @@ kept_lease : (t : Members) → HasOnly lease_keys t → Allows IsLeaseType (get_
     → Allows (IsNumber 1 86400000) (get_member (codes "halt-ttl") t) → IsSome (section (codes "etcd") t)
     → (IsOfEtcd (get_member (codes "type") t) → IsSome (get_member (codes "endpoints") (Inside (codes "etcd") t)))
     → (etcd : Option EtcdPlace) × IsEtcd (Inside (codes "etcd") t) etcd → (lease : LeaseSettings) × IsLease t lease
-kept_lease t keys kind candidate has_url url has_hostname hostname service_url service ttl seconds halt_ttl has_table endpoints etcd =
+kept_lease t keys kind candidate bootstrap has_url url has_hostname hostname service_url service ttl seconds halt_ttl has_table endpoints etcd =
     let k = held_or IsLeaseType lease.Static _ kind in
     let c = held_or IsFlag false _ candidate in
+    let b = held_or IsFlag false _ bootstrap in
     let u = held IsUrlText _ has_url url in
     let n = held IsText _ has_hostname hostname in
     let s = held_some IsUrlText _ service_url in
     let l = held_or (IsNumber 1 86400000) 10000 _ ttl in
     let w = held_or (IsNumber 1 86400000) l.0 _ halt_ttl in (
-      record { lease_type = k.0; candidate = c.0; advertise_url = u.0; hostname = n.0; service_url = s.0; etcd = etcd.0; ttl = l.0; halt_ttl = w.0 },
+      record { lease_type = k.0; candidate = c.0; bootstrap = b.0; advertise_url = u.0; hostname = n.0; service_url = s.0; etcd = etcd.0; ttl = l.0; halt_ttl = w.0 },
       record {
         keys = keys;
         lease_type = k.1;
         candidate = c.1;
+        bootstrap = b.1;
         advertise_url = u.1;
         hostname = n.1;
         service_url = s.1;
@@ -271,8 +274,8 @@ kept root h =
     let passed = kept_proxy (Inside (codes "proxy") root) (h.1.1.1.1.1.1.1.1.1.1.1.1.1.1.0) (h.1.1.1.1.1.1.1.1.1.1.1.1.1.1.1.0) (h.1.1.1.1.1.1.1.1.1.1.1.1.1.1.1.1.0) (h.1.1.1.1.1.1.1.1.1.1.1.1.1.1.1.1.1.0) (h.1.1.1.1.1.1.1.1.1.1.1.1.1.1.1.1.1.1.0) in
     let compress = held_or IsOff false _ (h.1.1.1.1.1.1.1.1.1.1.1.1.1.1.1.1.1.1.1.1.1.0) in
     let most = held_or (IsNumber 1 (2 ^ 63 - 1)) 1000 _ (h.1.1.1.1.1.1.1.1.1.1.1.1.1.1.1.1.1.1.1.1.1.1.0) in
-    let placed = kept_etcd (Inside (codes "etcd") (Inside (codes "lease") root)) (h.1.1.1.1.1.1.1.1.1.1.1.1.1.1.1.1.1.1.1.1.1.1.1.1.1.1.1.1.1.1.1.1.1.1.1.1.1.0) (h.1.1.1.1.1.1.1.1.1.1.1.1.1.1.1.1.1.1.1.1.1.1.1.1.1.1.1.1.1.1.1.1.1.1.1.1.1.1.1.0) (h.1.1.1.1.1.1.1.1.1.1.1.1.1.1.1.1.1.1.1.1.1.1.1.1.1.1.1.1.1.1.1.1.1.1.1.1.1.1.1.1.0) (h.1.1.1.1.1.1.1.1.1.1.1.1.1.1.1.1.1.1.1.1.1.1.1.1.1.1.1.1.1.1.1.1.1.1.1.1.1.1.1.1.1.0) in
-    let leased = kept_lease (Inside (codes "lease") root) (h.1.1.1.1.1.1.1.1.1.1.1.1.1.1.1.1.1.1.1.1.1.1.1.1.0) (h.1.1.1.1.1.1.1.1.1.1.1.1.1.1.1.1.1.1.1.1.1.1.1.1.1.0) (h.1.1.1.1.1.1.1.1.1.1.1.1.1.1.1.1.1.1.1.1.1.1.1.1.1.1.0) (h.1.1.1.1.1.1.1.1.1.1.1.1.1.1.1.1.1.1.1.1.1.1.1.1.1.1.1.0) (h.1.1.1.1.1.1.1.1.1.1.1.1.1.1.1.1.1.1.1.1.1.1.1.1.1.1.1.1.0) (h.1.1.1.1.1.1.1.1.1.1.1.1.1.1.1.1.1.1.1.1.1.1.1.1.1.1.1.1.1.0) (h.1.1.1.1.1.1.1.1.1.1.1.1.1.1.1.1.1.1.1.1.1.1.1.1.1.1.1.1.1.1.0) (h.1.1.1.1.1.1.1.1.1.1.1.1.1.1.1.1.1.1.1.1.1.1.1.1.1.1.1.1.1.1.1.0) (h.1.1.1.1.1.1.1.1.1.1.1.1.1.1.1.1.1.1.1.1.1.1.1.1.1.1.1.1.1.1.1.1.0) (h.1.1.1.1.1.1.1.1.1.1.1.1.1.1.1.1.1.1.1.1.1.1.1.1.1.1.1.1.1.1.1.1.1.0) (h.1.1.1.1.1.1.1.1.1.1.1.1.1.1.1.1.1.1.1.1.1.1.1.1.1.1.1.1.1.1.1.1.1.1.0) (h.1.1.1.1.1.1.1.1.1.1.1.1.1.1.1.1.1.1.1.1.1.1.1.1.1.1.1.1.1.1.1.1.1.1.1.0) (h.1.1.1.1.1.1.1.1.1.1.1.1.1.1.1.1.1.1.1.1.1.1.1.1.1.1.1.1.1.1.1.1.1.1.1.1.0) (h.1.1.1.1.1.1.1.1.1.1.1.1.1.1.1.1.1.1.1.1.1.1.1.1.1.1.1.1.1.1.1.1.1.1.1.1.1.1.0) placed in (
+    let placed = kept_etcd (Inside (codes "etcd") (Inside (codes "lease") root)) (h.1.1.1.1.1.1.1.1.1.1.1.1.1.1.1.1.1.1.1.1.1.1.1.1.1.1.1.1.1.1.1.1.1.1.1.1.1.1.0) (h.1.1.1.1.1.1.1.1.1.1.1.1.1.1.1.1.1.1.1.1.1.1.1.1.1.1.1.1.1.1.1.1.1.1.1.1.1.1.1.1.0) (h.1.1.1.1.1.1.1.1.1.1.1.1.1.1.1.1.1.1.1.1.1.1.1.1.1.1.1.1.1.1.1.1.1.1.1.1.1.1.1.1.1.0) (h.1.1.1.1.1.1.1.1.1.1.1.1.1.1.1.1.1.1.1.1.1.1.1.1.1.1.1.1.1.1.1.1.1.1.1.1.1.1.1.1.1.1.0) in
+    let leased = kept_lease (Inside (codes "lease") root) (h.1.1.1.1.1.1.1.1.1.1.1.1.1.1.1.1.1.1.1.1.1.1.1.1.0) (h.1.1.1.1.1.1.1.1.1.1.1.1.1.1.1.1.1.1.1.1.1.1.1.1.1.0) (h.1.1.1.1.1.1.1.1.1.1.1.1.1.1.1.1.1.1.1.1.1.1.1.1.1.1.0) (h.1.1.1.1.1.1.1.1.1.1.1.1.1.1.1.1.1.1.1.1.1.1.1.1.1.1.1.0) (h.1.1.1.1.1.1.1.1.1.1.1.1.1.1.1.1.1.1.1.1.1.1.1.1.1.1.1.1.0) (h.1.1.1.1.1.1.1.1.1.1.1.1.1.1.1.1.1.1.1.1.1.1.1.1.1.1.1.1.1.0) (h.1.1.1.1.1.1.1.1.1.1.1.1.1.1.1.1.1.1.1.1.1.1.1.1.1.1.1.1.1.1.0) (h.1.1.1.1.1.1.1.1.1.1.1.1.1.1.1.1.1.1.1.1.1.1.1.1.1.1.1.1.1.1.1.0) (h.1.1.1.1.1.1.1.1.1.1.1.1.1.1.1.1.1.1.1.1.1.1.1.1.1.1.1.1.1.1.1.1.0) (h.1.1.1.1.1.1.1.1.1.1.1.1.1.1.1.1.1.1.1.1.1.1.1.1.1.1.1.1.1.1.1.1.1.0) (h.1.1.1.1.1.1.1.1.1.1.1.1.1.1.1.1.1.1.1.1.1.1.1.1.1.1.1.1.1.1.1.1.1.1.0) (h.1.1.1.1.1.1.1.1.1.1.1.1.1.1.1.1.1.1.1.1.1.1.1.1.1.1.1.1.1.1.1.1.1.1.1.0) (h.1.1.1.1.1.1.1.1.1.1.1.1.1.1.1.1.1.1.1.1.1.1.1.1.1.1.1.1.1.1.1.1.1.1.1.1.0) (h.1.1.1.1.1.1.1.1.1.1.1.1.1.1.1.1.1.1.1.1.1.1.1.1.1.1.1.1.1.1.1.1.1.1.1.1.1.0) (h.1.1.1.1.1.1.1.1.1.1.1.1.1.1.1.1.1.1.1.1.1.1.1.1.1.1.1.1.1.1.1.1.1.1.1.1.1.1.1.0) placed in (
       record { database = database.0; log = log.0; socket = files.0; mount = files.1; http = http.0; proxy = passed.0; compress = compress.0; retention_files = most.0; lease = leased.0 },
       record {
         keys = h.0;
@@ -298,7 +301,7 @@ keeps root s is =
     let url = there IsUrlText _ s.lease.advertise_url leased.1.advertise_url in
     let hostname = there IsText _ s.lease.hostname leased.1.hostname in
     let placed = of_table (section (codes "etcd") (Inside (codes "lease") root)) (λ t. IsEtcd t s.lease.etcd) leased.1.etcd in
-    (is.keys, (database.0, (database.1, (allowed_or IsSwitch true _ s.log is.log, (fuse.0, (fuse.1.keys, (allowed_or IsText (codes "litefs.sock") _ s.socket fuse.1.listen, (brings_dir _ _ s.mount fuse.1.a_dir fuse.1.a_program, (allowed_some IsPath _ (dir_of s.mount) fuse.1.a_dir, (allowed_some IsPath _ (program_of s.mount) fuse.1.a_program, (http.0, (http.1.keys, (allowed_or IsAddressText (codes ":20202") _ s.http http.1.addr, (passed.0, (passed.1.keys, (beside.0, (allowed_some IsAddressText _ (option_map (λ p. p.addr) s.proxy) passed.1.an_addr, (beside.1, (allowed_some IsTargetText _ (option_map (λ p. p.target) s.proxy) passed.1.a_target, (stored.0, (stored.1.keys, (allowed_or IsOff false _ s.compress stored.1.compress, (allowed_or (IsNumber 1 (2 ^ 63 - 1)) 1000 _ s.retention_files stored.1.retention_files, (leased.0, (leased.1.keys, (allowed_or IsLeaseType lease.Static _ s.lease.lease_type leased.1.lease_type, (allowed_or IsFlag false _ s.lease.candidate leased.1.candidate, (url.0, (url.1, (hostname.0, (hostname.1, (allowed_some IsUrlText _ s.lease.service_url leased.1.service_url, (asks_service _ _ s.lease.lease_type s.lease.service_url leased.1.lease_type leased.1.service_url leased.1.has_service, (allowed_or (IsNumber 1 86400000) 10000 _ s.lease.ttl leased.1.ttl, (asks_ttl _ _ s.lease.lease_type s.lease.ttl leased.1.lease_type leased.1.ttl leased.1.has_ttl, (allowed_or (IsNumber 1 86400000) s.lease.ttl _ s.lease.halt_ttl leased.1.halt_ttl, (placed.0, (placed.1.keys, (asks_etcd _ _ s.lease.lease_type s.lease.etcd leased.1.lease_type placed.1.some_endpoints leased.1.has_etcd, (brings_endpoints _ _ s.lease.etcd placed.1.some_endpoints placed.1.a_key, (allowed_some IsUrls _ (endpoints_of s.lease.etcd) placed.1.some_endpoints, (allowed_some IsKeyText _ (etcd_key_of s.lease.etcd) placed.1.a_key, tt))))))))))))))))))))))))))))))))))))))))))
+    (is.keys, (database.0, (database.1, (allowed_or IsSwitch true _ s.log is.log, (fuse.0, (fuse.1.keys, (allowed_or IsText (codes "litefs.sock") _ s.socket fuse.1.listen, (brings_dir _ _ s.mount fuse.1.a_dir fuse.1.a_program, (allowed_some IsPath _ (dir_of s.mount) fuse.1.a_dir, (allowed_some IsPath _ (program_of s.mount) fuse.1.a_program, (http.0, (http.1.keys, (allowed_or IsAddressText (codes ":20202") _ s.http http.1.addr, (passed.0, (passed.1.keys, (beside.0, (allowed_some IsAddressText _ (option_map (λ p. p.addr) s.proxy) passed.1.an_addr, (beside.1, (allowed_some IsTargetText _ (option_map (λ p. p.target) s.proxy) passed.1.a_target, (stored.0, (stored.1.keys, (allowed_or IsOff false _ s.compress stored.1.compress, (allowed_or (IsNumber 1 (2 ^ 63 - 1)) 1000 _ s.retention_files stored.1.retention_files, (leased.0, (leased.1.keys, (allowed_or IsLeaseType lease.Static _ s.lease.lease_type leased.1.lease_type, (allowed_or IsFlag false _ s.lease.candidate leased.1.candidate, (allowed_or IsFlag false _ s.lease.bootstrap leased.1.bootstrap, (url.0, (url.1, (hostname.0, (hostname.1, (allowed_some IsUrlText _ s.lease.service_url leased.1.service_url, (asks_service _ _ s.lease.lease_type s.lease.service_url leased.1.lease_type leased.1.service_url leased.1.has_service, (allowed_or (IsNumber 1 86400000) 10000 _ s.lease.ttl leased.1.ttl, (asks_ttl _ _ s.lease.lease_type s.lease.ttl leased.1.lease_type leased.1.ttl leased.1.has_ttl, (allowed_or (IsNumber 1 86400000) s.lease.ttl _ s.lease.halt_ttl leased.1.halt_ttl, (placed.0, (placed.1.keys, (asks_etcd _ _ s.lease.lease_type s.lease.etcd leased.1.lease_type placed.1.some_endpoints leased.1.has_etcd, (brings_endpoints _ _ s.lease.etcd placed.1.some_endpoints placed.1.a_key, (allowed_some IsUrls _ (endpoints_of s.lease.etcd) placed.1.some_endpoints, (allowed_some IsKeyText _ (etcd_key_of s.lease.etcd) placed.1.a_key, tt)))))))))))))))))))))))))))))))))))))))))))
 
 -- ---- of a node whose lease is granted by nobody
 
@@ -342,13 +345,14 @@ kept_service root h =
     let files = held_or (IsNumber 1 (2 ^ 63 - 1)) 1000 _ (h.1.1.1.1.1.1.1.1.1.1.1.1.1.1.1.1.1.1.0) in
     let kind = held_or IsLeaseType lease.Static _ (h.1.1.1.1.1.1.1.1.1.1.1.1.1.1.1.1.1.1.1.1.1.0) in
     let candidate = held_or IsFlag false _ (h.1.1.1.1.1.1.1.1.1.1.1.1.1.1.1.1.1.1.1.1.1.1.0) in
-    let url = held_some IsUrlText _ (h.1.1.1.1.1.1.1.1.1.1.1.1.1.1.1.1.1.1.1.1.1.1.1.0) in
-    let hostname = held_some IsText _ (h.1.1.1.1.1.1.1.1.1.1.1.1.1.1.1.1.1.1.1.1.1.1.1.1.0) in
-    let service_url = held_some IsUrlText _ (h.1.1.1.1.1.1.1.1.1.1.1.1.1.1.1.1.1.1.1.1.1.1.1.1.1.0) in
-    let ttl = held_or (IsNumber 1 86400000) 10000 _ (h.1.1.1.1.1.1.1.1.1.1.1.1.1.1.1.1.1.1.1.1.1.1.1.1.1.1.0) in
-    let halt_ttl = held_or (IsNumber 1 86400000) ttl.0 _ (h.1.1.1.1.1.1.1.1.1.1.1.1.1.1.1.1.1.1.1.1.1.1.1.1.1.1.1.0) in
-    let endpoints = held_some IsUrls _ (h.1.1.1.1.1.1.1.1.1.1.1.1.1.1.1.1.1.1.1.1.1.1.1.1.1.1.1.1.1.1.0) in
-    let etcd_key = held_some IsKeyText _ (h.1.1.1.1.1.1.1.1.1.1.1.1.1.1.1.1.1.1.1.1.1.1.1.1.1.1.1.1.1.1.1.0) in (
+    let bootstrap = held_or IsFlag false _ (h.1.1.1.1.1.1.1.1.1.1.1.1.1.1.1.1.1.1.1.1.1.1.1.0) in
+    let url = held_some IsUrlText _ (h.1.1.1.1.1.1.1.1.1.1.1.1.1.1.1.1.1.1.1.1.1.1.1.1.0) in
+    let hostname = held_some IsText _ (h.1.1.1.1.1.1.1.1.1.1.1.1.1.1.1.1.1.1.1.1.1.1.1.1.1.0) in
+    let service_url = held_some IsUrlText _ (h.1.1.1.1.1.1.1.1.1.1.1.1.1.1.1.1.1.1.1.1.1.1.1.1.1.1.0) in
+    let ttl = held_or (IsNumber 1 86400000) 10000 _ (h.1.1.1.1.1.1.1.1.1.1.1.1.1.1.1.1.1.1.1.1.1.1.1.1.1.1.1.0) in
+    let halt_ttl = held_or (IsNumber 1 86400000) ttl.0 _ (h.1.1.1.1.1.1.1.1.1.1.1.1.1.1.1.1.1.1.1.1.1.1.1.1.1.1.1.1.0) in
+    let endpoints = held_some IsUrls _ (h.1.1.1.1.1.1.1.1.1.1.1.1.1.1.1.1.1.1.1.1.1.1.1.1.1.1.1.1.1.1.1.0) in
+    let etcd_key = held_some IsKeyText _ (h.1.1.1.1.1.1.1.1.1.1.1.1.1.1.1.1.1.1.1.1.1.1.1.1.1.1.1.1.1.1.1.1.0) in (
       record { log = log.0; http = http.0; ttl = ttl.0 },
       record {
         database = database.0;
@@ -370,6 +374,7 @@ kept_service root h =
             (record {
               kind = kind.0;
               candidate = candidate.0;
+              bootstrap = bootstrap.0;
               advertise_url = url.0;
               hostname = hostname.0;
               service_url = service_url.0;
@@ -379,12 +384,13 @@ kept_service root h =
               keys = h.1.1.1.1.1.1.1.1.1.1.1.1.1.1.1.1.1.1.1.1.0;
               a_type = kind.1;
               a_flag = candidate.1;
+              begun = bootstrap.1;
               advertised = url.1;
               named = hostname.1;
               served = service_url.1;
               lasts = ttl.1;
               permitted = halt_ttl.1;
-              granted = in_table (section (codes "etcd") (Inside (codes "lease") root)) (λ t. IsEtcdTable t endpoints.0 etcd_key.0) (h.1.1.1.1.1.1.1.1.1.1.1.1.1.1.1.1.1.1.1.1.1.1.1.1.1.1.1.1.0) (record { keys = (h.1.1.1.1.1.1.1.1.1.1.1.1.1.1.1.1.1.1.1.1.1.1.1.1.1.1.1.1.1.0); some_endpoints = endpoints.1; a_key = etcd_key.1 });
+              granted = in_table (section (codes "etcd") (Inside (codes "lease") root)) (λ t. IsEtcdTable t endpoints.0 etcd_key.0) (h.1.1.1.1.1.1.1.1.1.1.1.1.1.1.1.1.1.1.1.1.1.1.1.1.1.1.1.1.1.0) (record { keys = (h.1.1.1.1.1.1.1.1.1.1.1.1.1.1.1.1.1.1.1.1.1.1.1.1.1.1.1.1.1.1.0); some_endpoints = endpoints.1; a_key = etcd_key.1 });
             });
       },
     )
@@ -397,4 +403,4 @@ keeps_service root s is =
     let stored = of_table (section (codes "data") root) (λ t. IsData t is.packed is.files) is.data_kept in
     let leased = of_table (section (codes "lease") root) (λ t. IsServiceLease t s.ttl) is.lease in
     let placed = of_table (section (codes "etcd") (Inside (codes "lease") root)) (λ t. IsEtcdTable t leased.1.endpoints leased.1.etcd_key) leased.1.granted in
-    (is.keys, (allowed_some IsNameText _ is.database is.named, (allowed_or IsSwitch true _ s.log is.log, (fuse.0, (fuse.1.keys, (allowed_or IsText (codes "litefs.sock") _ is.socket fuse.1.listen, (allowed_some IsPath _ is.dir fuse.1.a_dir, (allowed_some IsPath _ is.program fuse.1.a_program, (http.0, (http.1.keys, (allowed_or IsAddressText (codes ":20202") _ s.http http.1.addr, (passed.0, (passed.1.keys, (allowed_some IsAddressText _ is.addr passed.1.an_addr, (allowed_some IsTargetText _ is.target passed.1.a_target, (stored.0, (stored.1.keys, (allowed_or IsOff false _ is.packed stored.1.compress, (allowed_or (IsNumber 1 (2 ^ 63 - 1)) 1000 _ is.files stored.1.retention_files, (leased.0, (leased.1.keys, (allowed_or IsLeaseType lease.Static _ leased.1.kind leased.1.a_type, (allowed_or IsFlag false _ leased.1.candidate leased.1.a_flag, (allowed_some IsUrlText _ leased.1.advertise_url leased.1.advertised, (allowed_some IsText _ leased.1.hostname leased.1.named, (allowed_some IsUrlText _ leased.1.service_url leased.1.served, (allowed_or (IsNumber 1 86400000) 10000 _ s.ttl leased.1.lasts, (allowed_or (IsNumber 1 86400000) s.ttl _ leased.1.halt_ttl leased.1.permitted, (placed.0, (placed.1.keys, (allowed_some IsUrls _ leased.1.endpoints placed.1.some_endpoints, (allowed_some IsKeyText _ leased.1.etcd_key placed.1.a_key, tt))))))))))))))))))))))))))))))))
+    (is.keys, (allowed_some IsNameText _ is.database is.named, (allowed_or IsSwitch true _ s.log is.log, (fuse.0, (fuse.1.keys, (allowed_or IsText (codes "litefs.sock") _ is.socket fuse.1.listen, (allowed_some IsPath _ is.dir fuse.1.a_dir, (allowed_some IsPath _ is.program fuse.1.a_program, (http.0, (http.1.keys, (allowed_or IsAddressText (codes ":20202") _ s.http http.1.addr, (passed.0, (passed.1.keys, (allowed_some IsAddressText _ is.addr passed.1.an_addr, (allowed_some IsTargetText _ is.target passed.1.a_target, (stored.0, (stored.1.keys, (allowed_or IsOff false _ is.packed stored.1.compress, (allowed_or (IsNumber 1 (2 ^ 63 - 1)) 1000 _ is.files stored.1.retention_files, (leased.0, (leased.1.keys, (allowed_or IsLeaseType lease.Static _ leased.1.kind leased.1.a_type, (allowed_or IsFlag false _ leased.1.candidate leased.1.a_flag, (allowed_or IsFlag false _ leased.1.bootstrap leased.1.begun, (allowed_some IsUrlText _ leased.1.advertise_url leased.1.advertised, (allowed_some IsText _ leased.1.hostname leased.1.named, (allowed_some IsUrlText _ leased.1.service_url leased.1.served, (allowed_or (IsNumber 1 86400000) 10000 _ s.ttl leased.1.lasts, (allowed_or (IsNumber 1 86400000) s.ttl _ leased.1.halt_ttl leased.1.permitted, (placed.0, (placed.1.keys, (allowed_some IsUrls _ leased.1.endpoints placed.1.some_endpoints, (allowed_some IsKeyText _ leased.1.etcd_key placed.1.a_key, tt)))))))))))))))))))))))))))))))))

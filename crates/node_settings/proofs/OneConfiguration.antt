@@ -141,6 +141,7 @@ one_lease t a b x y =
     λ i. record {
       lease_type = holds_or IsLeaseType one_lease_type lease.Static _ a.lease_type b.lease_type x.lease_type y.lease_type i;
       candidate = holds_or IsFlag one_flag _ _ a.candidate b.candidate x.candidate y.candidate i;
+      bootstrap = holds_or IsFlag one_flag _ _ a.bootstrap b.bootstrap x.bootstrap y.bootstrap i;
       advertise_url = holds IsUrlText one_url _ a.advertise_url b.advertise_url x.advertise_url y.advertise_url i;
       hostname = holds IsText one_text _ a.hostname b.hostname x.hostname y.hostname i;
       service_url = holds_or (IsSomeOf IsUrlText) one_some_url None _ a.service_url b.service_url x.service_url y.service_url i;

@@ -79,13 +79,14 @@ abbrev pub IsEtcd : Members → Option EtcdPlace → Type 0
 IsEtcd members etcd = IsEtcdTable members (endpoints_of etcd) (etcd_key_of etcd)
 
 abbrev pub lease_keys : List (List ℕ)
-lease_keys = codes "type" ∷ codes "candidate" ∷ codes "advertise-url" ∷ codes "hostname" ∷ codes "service-url" ∷ codes "ttl" ∷ codes "halt-ttl" ∷ codes "etcd" ∷ []
+lease_keys = codes "type" ∷ codes "candidate" ∷ codes "bootstrap" ∷ codes "advertise-url" ∷ codes "hostname" ∷ codes "service-url" ∷ codes "ttl" ∷ codes "halt-ttl" ∷ codes "etcd" ∷ []
 
 -- [lease]
 pub record IsLease (members : Members) (lease : LeaseSettings) : Type 0 where
   pub keys : HasOnly lease_keys members
   pub lease_type : HoldsOr (codes "type") IsLeaseType lease_type.Static members lease.lease_type
   pub candidate : HoldsOr (codes "candidate") IsFlag false members lease.candidate
+  pub bootstrap : HoldsOr (codes "bootstrap") IsFlag false members lease.bootstrap
   pub advertise_url : Holds (codes "advertise-url") IsUrlText members lease.advertise_url
   pub hostname : Holds (codes "hostname") IsText members lease.hostname
   pub service_url : HoldsOr (codes "service-url") (IsSomeOf IsUrlText) None members lease.service_url

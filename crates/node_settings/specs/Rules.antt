@@ -83,6 +83,7 @@ place_of key.Compress = place.Data
 place_of key.RetentionFiles = place.Data
 place_of key.Type = place.Lease
 place_of key.Candidate = place.Lease
+place_of key.Bootstrap = place.Lease
 place_of key.AdvertiseUrl = place.Lease
 place_of key.Hostname = place.Lease
 place_of key.ServiceUrl = place.Lease
@@ -104,6 +105,7 @@ name_of key.Compress = codes "compress"
 name_of key.RetentionFiles = codes "retention-files"
 name_of key.Type = codes "type"
 name_of key.Candidate = codes "candidate"
+name_of key.Bootstrap = codes "bootstrap"
 name_of key.AdvertiseUrl = codes "advertise-url"
 name_of key.Hostname = codes "hostname"
 name_of key.ServiceUrl = codes "service-url"
@@ -144,6 +146,7 @@ Fits key.Compress d = Says IsOff d
 Fits key.RetentionFiles d = Says (IsNumber 1 (2 ^ 63 - 1)) d
 Fits key.Type d = Says IsLeaseType d
 Fits key.Candidate d = Says IsFlag d
+Fits key.Bootstrap d = Says IsFlag d
 Fits key.AdvertiseUrl d = Says IsUrlText d
 Fits key.Hostname d = Says IsText d
 Fits key.ServiceUrl d = Says IsUrlText d
@@ -243,7 +246,7 @@ node_rules = rule.Keys place.Root
     ∷ rule.Table place.Http ∷ rule.Keys place.Http ∷ rule.Value key.Addr
     ∷ rule.Table place.Proxy ∷ rule.Keys place.Proxy ∷ rule.Addr ∷ rule.Value key.ProxyAddr ∷ rule.Target ∷ rule.Value key.Target
     ∷ rule.Table place.Data ∷ rule.Keys place.Data ∷ rule.Value key.Compress ∷ rule.Value key.RetentionFiles
-    ∷ rule.Table place.Lease ∷ rule.Keys place.Lease ∷ rule.Value key.Type ∷ rule.Value key.Candidate
+    ∷ rule.Table place.Lease ∷ rule.Keys place.Lease ∷ rule.Value key.Type ∷ rule.Value key.Candidate ∷ rule.Value key.Bootstrap
     ∷ rule.There key.AdvertiseUrl ∷ rule.Value key.AdvertiseUrl ∷ rule.There key.Hostname ∷ rule.Value key.Hostname
     ∷ rule.Value key.ServiceUrl ∷ rule.Service ∷ rule.Value key.Ttl ∷ rule.Seconds ∷ rule.Value key.HaltTtl
     ∷ rule.Table place.Etcd ∷ rule.Keys place.Etcd ∷ rule.Etcd ∷ rule.Endpoints ∷ rule.Value key.Endpoints ∷ rule.Value key.EtcdKey ∷ []
@@ -261,6 +264,6 @@ service_rules = rule.Keys place.Root
     ∷ rule.Table place.Http ∷ rule.Keys place.Http ∷ rule.Value key.Addr
     ∷ rule.Table place.Proxy ∷ rule.Keys place.Proxy ∷ rule.Value key.ProxyAddr ∷ rule.Value key.Target
     ∷ rule.Table place.Data ∷ rule.Keys place.Data ∷ rule.Value key.Compress ∷ rule.Value key.RetentionFiles
-    ∷ rule.Table place.Lease ∷ rule.Keys place.Lease ∷ rule.Value key.Type ∷ rule.Value key.Candidate
+    ∷ rule.Table place.Lease ∷ rule.Keys place.Lease ∷ rule.Value key.Type ∷ rule.Value key.Candidate ∷ rule.Value key.Bootstrap
     ∷ rule.Value key.AdvertiseUrl ∷ rule.Value key.Hostname ∷ rule.Value key.ServiceUrl ∷ rule.Value key.Ttl ∷ rule.Value key.HaltTtl
     ∷ rule.Table place.Etcd ∷ rule.Keys place.Etcd ∷ rule.Value key.Endpoints ∷ rule.Value key.EtcdKey ∷ []

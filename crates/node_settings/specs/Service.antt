@@ -13,6 +13,7 @@ use Rattle.node_settings.specs.Values.{HoldsOr, HasOnly, section, IsSomeOf, IsTe
 pub record IsServiceLease (members : Members) (ttl : ℕ) : Type 0 where
   pub kind : LeaseType
   pub candidate : Bool
+  pub bootstrap : Bool
   pub advertise_url : Option (List ℕ)
   pub hostname : Option (List ℕ)
   pub service_url : Option (List ℕ)
@@ -22,6 +23,7 @@ pub record IsServiceLease (members : Members) (ttl : ℕ) : Type 0 where
   pub keys : HasOnly lease_keys members
   pub a_type : HoldsOr (codes "type") IsLeaseType lease_type.Static members kind
   pub a_flag : HoldsOr (codes "candidate") IsFlag false members candidate
+  pub begun : HoldsOr (codes "bootstrap") IsFlag false members bootstrap
   pub advertised : HoldsOr (codes "advertise-url") (IsSomeOf IsUrlText) None members advertise_url
   pub named : HoldsOr (codes "hostname") (IsSomeOf IsText) None members hostname
   pub served : HoldsOr (codes "service-url") (IsSomeOf IsUrlText) None members service_url

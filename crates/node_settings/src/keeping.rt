@@ -118,6 +118,7 @@ fn fits(alloc: Global, key: Key, value: &Value) -> Result<bool, NoMemory>
         Key::RetentionFiles => judged(number(value, 1, (1 << 63) - 1)),
         Key::Type => judged(lease_type(value)),
         Key::Candidate => judged(flag(value)),
+        Key::Bootstrap => judged(flag(value)),
         Key::AdvertiseUrl => judged(url(alloc, value)),
         Key::Hostname => judged(text(alloc, value)),
         Key::ServiceUrl => judged(url(alloc, value)),

@@ -18,6 +18,7 @@ pub enum Key {
     RetentionFiles,
     Type,
     Candidate,
+    Bootstrap,
     AdvertiseUrl,
     Hostname,
     ServiceUrl,
@@ -39,6 +40,7 @@ pub(crate) fn place_of(key: Key) -> Place
         Key::Compress | Key::RetentionFiles => Place::Data,
         Key::Type
         | Key::Candidate
+        | Key::Bootstrap
         | Key::AdvertiseUrl
         | Key::Hostname
         | Key::ServiceUrl
@@ -64,6 +66,7 @@ pub(crate) fn name_of(key: Key) -> &'static str
         Key::RetentionFiles => "retention-files",
         Key::Type => "type",
         Key::Candidate => "candidate",
+        Key::Bootstrap => "bootstrap",
         Key::AdvertiseUrl => "advertise-url",
         Key::Hostname => "hostname",
         Key::ServiceUrl => "service-url",

@@ -30,6 +30,7 @@ fn lease_of(alloc: Global, table: Option<&Table>) -> Result<LeaseSettings, Setti
     check_lease_keys(table)?;
     let lease_type = kind(table)?;
     let candidate = candidate(table)?;
+    let bootstrap = bootstrap(table)?;
     let advertise_url = advertise_url(alloc, table)?;
     let hostname = hostname(alloc, table)?;
     let service_url = url_at(alloc, table, "service-url")?;
@@ -42,6 +43,7 @@ fn lease_of(alloc: Global, table: Option<&Table>) -> Result<LeaseSettings, Setti
     Ok(LeaseSettings {
         lease_type,
         candidate,
+        bootstrap,
         advertise_url,
         hostname,
         service_url,
@@ -104,6 +106,15 @@ pub(crate) fn candidate(table: Option<&Table>) -> Result<bool, SettingsFault>
     ensures { Reads (HoldsOr (codes "candidate") IsFlag false (members_at table.entry)) result }
 {
     match value_at(table, "candidate") {
+        Some(value) => flag(value),
+        None => Ok(false),
+    }
+}
+
+pub(crate) fn bootstrap(table: Option<&Table>) -> Result<bool, SettingsFault>
+    ensures { Reads (HoldsOr (codes "bootstrap") IsFlag false (members_at table.entry)) result }
+{
+    match value_at(table, "bootstrap") {
         Some(value) => flag(value),
         None => Ok(false),
     }

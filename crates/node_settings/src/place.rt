@@ -60,6 +60,7 @@ const DATA_KEYS: &[&str] = &["compress", "retention-files"];
 const LEASE_KEYS: &[&str] = &[
     "type",
     "candidate",
+    "bootstrap",
     "advertise-url",
     "hostname",
     "service-url",

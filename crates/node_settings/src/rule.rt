@@ -78,7 +78,7 @@ fn words_of_key(key: Key) -> &'static str
         Key::Compress => "false",
         Key::RetentionFiles => "a number from 1 to 9223372036854775807",
         Key::Type => "static, service or etcd, as a text",
-        Key::Candidate => "true or false",
+        Key::Candidate | Key::Bootstrap => "true or false",
         Key::AdvertiseUrl | Key::ServiceUrl => "a URL, http://host:port",
         Key::Ttl | Key::HaltTtl => "a number of milliseconds from 1 to 86400000",
         Key::Endpoints => "an array of 1 to 16 URLs, each http://host:port",
@@ -104,6 +104,7 @@ fn words_of_missing(key: Key) -> &'static str
         | Key::RetentionFiles
         | Key::Type
         | Key::Candidate
+        | Key::Bootstrap
         | Key::Hostname
         | Key::ServiceUrl
         | Key::Ttl

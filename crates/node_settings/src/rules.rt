@@ -5,7 +5,7 @@ ghost use Rattle.node_settings.specs.Rules.{node_rules, service_rules, static_ru
 use crate::{Key, Place, Rule};
 
 /// Those of a node whose lease is granted by nobody. All but the last are those of a node.
-const RULES: [Rule; 43] = [
+const RULES: [Rule; 44] = [
     Rule::Keys(Place::Root),
     Rule::There(Key::Database),
     Rule::Value(Key::Database),
@@ -33,6 +33,7 @@ const RULES: [Rule; 43] = [
     Rule::Keys(Place::Lease),
     Rule::Value(Key::Type),
     Rule::Value(Key::Candidate),
+    Rule::Value(Key::Bootstrap),
     Rule::There(Key::AdvertiseUrl),
     Rule::Value(Key::AdvertiseUrl),
     Rule::There(Key::Hostname),
@@ -52,7 +53,7 @@ const RULES: [Rule; 43] = [
 ];
 
 /// Those of a lease service.
-const SERVICE_RULES: [Rule; 32] = [
+const SERVICE_RULES: [Rule; 33] = [
     Rule::Keys(Place::Root),
     Rule::Value(Key::Database),
     Rule::Value(Key::Log),
@@ -76,6 +77,7 @@ const SERVICE_RULES: [Rule; 32] = [
     Rule::Keys(Place::Lease),
     Rule::Value(Key::Type),
     Rule::Value(Key::Candidate),
+    Rule::Value(Key::Bootstrap),
     Rule::Value(Key::AdvertiseUrl),
     Rule::Value(Key::Hostname),
     Rule::Value(Key::ServiceUrl),
@@ -90,7 +92,7 @@ const SERVICE_RULES: [Rule; 32] = [
 pub(crate) fn node_rules() -> &'static [Rule]
     ensures { result.now ≡ node_rules }
 {
-    &RULES[..42]
+    &RULES[..43]
 }
 
 pub(crate) fn static_rules() -> &'static [Rule]

@@ -12,7 +12,7 @@ ghost use Rattle.node_settings.specs.Values.{HoldsOr, IsNameText, IsSomeOf, IsTe
 use crate::complaining::{document, refused};
 use crate::etcd_table::etcd_table;
 use crate::fuse_table::fuse_table;
-use crate::lease_table::{candidate, check_lease_keys, halt_ttl, kind, ttl, url_at};
+use crate::lease_table::{bootstrap, candidate, check_lease_keys, halt_ttl, kind, ttl, url_at};
 use crate::proxy_table::proxy_table;
 use crate::reading::{check_root_keys, http, kept, log};
 use crate::rules::service_rules;
@@ -77,6 +77,7 @@ fn time_of(alloc: Global, table: Option<&Table>) -> Result<u64, SettingsFault>
     check_lease_keys(table)?;
     let _type = kind(table)?;
     let _candidate = candidate(table)?;
+    let _bootstrap = bootstrap(table)?;
     let _advertised = url_at(alloc, table, "advertise-url")?;
     let _hostname = some_hostname(alloc, table)?;
     let _service = url_at(alloc, table, "service-url")?;

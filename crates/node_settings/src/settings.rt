@@ -47,6 +47,8 @@ pub struct LeaseSettings {
     pub lease_type: LeaseType,
     /// Whether this node may become primary.
     pub candidate: bool,
+    /// Whether it asks to be primary at once where it has no database, as the first primary of a new cluster does.
+    pub bootstrap: bool,
     /// Where the primary of a static lease is found; where a lease is granted, where this node is.
     pub advertise_url: Url,
     /// The host of the same node.

@@ -124,7 +124,7 @@ fn config_of<R: Handles + Abort + Copy>(
     let second = etcd.local_addr().expect(&rt, "its address");
     format!(in alloc;
         "database = \"etcd_leased\"\n[fuse]\nlisten = \"etcd_leased_socket\"\n[http]\naddr = \"127.0.0.1:0\"\n\
-        [lease]\ntype = \"etcd\"\ncandidate = true\nttl = 2000\nadvertise-url = \"http://127.0.0.1:1\"\nhostname = \"localhost\"\n\
+        [lease]\ntype = \"etcd\"\ncandidate = true\nbootstrap = true\nttl = 2000\nadvertise-url = \"http://127.0.0.1:1\"\nhostname = \"localhost\"\n\
         [lease.etcd]\nendpoints = [\"http://{first}\", \"http://{second}\"]\n"
     )
     .expect(&rt, "memory")

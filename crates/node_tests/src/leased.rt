@@ -30,10 +30,11 @@ const REPLIES: [(u8, &str); 4] = [
 ];
 
 /// How often the service is asked before it is not: at which request the word is closed, from which on
-/// nobody is named as primary, and which is the last.
+/// nobody is named as primary, which is hung up without an answer, and which is the last.
 #[derive(Clone, Copy)]
 struct Script {
     named: usize,
+    silent: usize,
     closes: usize,
     last: usize,
 }
@@ -47,53 +48,102 @@ struct Seen {
     late: u64,
 }
 
-/// A node, what its service does, the letters of what it is asked, and whether the node that was named is
-/// dialed.
+/// A request that doesn't come.
+const NEVER: usize = 99;
+
+/// A node without a database, whether it begins a cluster, its ttl, what its service does, the letters of what it is asked,
+/// and whether the node that was named is dialed.
 #[derive(Clone, Copy)]
 struct Row {
     database: &'static str,
     candidate: bool,
+    bootstrap: bool,
+    ttl: u64,
     script: Script,
     letters: &'static [u8],
     follows: bool,
 }
 
+/// Nobody is named, and each request is answered.
+const NOBODY: Script = Script {
+    named: 0,
+    silent: NEVER,
+    closes: 2,
+    last: 4,
+};
+
+/// A candidate that begins a cluster asks who is primary, and then to be it, and to stay it. At its end it gives the term back.
+const FIRST: Row = Row {
+    database: "leased_first",
+    candidate: true,
+    bootstrap: true,
+    ttl: 8000,
+    script: NOBODY,
+    letters: b"iare",
+    follows: false,
+};
+
 const ROWS: &[Row] = &[
-    // A candidate asks who is primary, and then to be it, and to stay it. At its end it gives the term back.
-    Row {
-        database: "leased_first",
-        candidate: true,
-        script: Script {
-            named: 0,
-            closes: 2,
-            last: 4,
-        },
-        letters: b"iare",
-        follows: false,
-    },
+    FIRST,
     // Another node asks who is primary, and nothing else.
     Row {
         database: "leased_never",
         candidate: false,
-        script: Script {
-            named: 0,
-            closes: 2,
-            last: 3,
-        },
+        script: Script { last: 3, ..NOBODY },
         letters: b"iii",
-        follows: false,
+        ..FIRST
+    },
+    // So does a candidate that doesn't begin one, while it waits.
+    Row {
+        database: "leased_waits",
+        bootstrap: false,
+        script: Script {
+            closes: 4,
+            last: 5,
+            ..NOBODY
+        },
+        letters: b"iiiii",
+        ..FIRST
+    },
+    // It asks after the rounds of three leases, here of one each, that were named nobody.
+    Row {
+        database: "leased_waited",
+        bootstrap: false,
+        ttl: 50,
+        script: Script {
+            closes: 4,
+            last: 6,
+            ..NOBODY
+        },
+        letters: b"iiiare",
+        ..FIRST
+    },
+    // A round without an answer begins anew.
+    Row {
+        database: "leased_anew",
+        bootstrap: false,
+        ttl: 50,
+        script: Script {
+            silent: 2,
+            closes: 7,
+            last: 9,
+            ..NOBODY
+        },
+        letters: b"iiiiiiare",
+        ..FIRST
     },
     // A candidate follows the primary that is named, and nobody once it is primary itself.
     Row {
         database: "leased_follows",
-        candidate: true,
         script: Script {
             named: 2,
             closes: 7,
             last: 9,
+            ..NOBODY
         },
         letters: b"iiiarrrre",
         follows: true,
+        ..FIRST
     },
 ];
 
@@ -186,6 +236,9 @@ fn serve<R: Handles + Copy + Abort>(
             seen.late = hang_up_all(other);
             closing.close_doors(&rt);
         }
+        if number == script.silent {
+            continue;
+        }
         if number < script.named {
             write_reply(rt, alloc, &mut stream, named.as_str());
         } else {
@@ -214,14 +267,20 @@ fn peer_of<R: Handles + Abort + Copy + Send + 'static>(
 fn config_of<R: Handles + Abort + Copy>(
     rt: R,
     alloc: Global,
-    database: &str,
-    candidate: bool,
+    row: &Row,
     service: &TcpListener,
 ) -> String {
     let address = service.local_addr().expect(&rt, "its address");
+    let Row {
+        database,
+        candidate,
+        bootstrap,
+        ttl,
+        ..
+    } = *row;
     format!(in alloc;
         "database = \"{database}\"\n[fuse]\nlisten = \"{database}_socket\"\n[http]\naddr = \"127.0.0.1:0\"\n\
-        [lease]\ntype = \"service\"\nservice-url = \"http://{address}\"\ncandidate = {candidate}\nttl = 8000\n\
+        [lease]\ntype = \"service\"\nservice-url = \"http://{address}\"\ncandidate = {candidate}\nbootstrap = {bootstrap}\nttl = {ttl}\n\
         advertise-url = \"http://127.0.0.1:1\"\nhostname = \"localhost\"\n"
     )
     .expect(&rt, "memory")
@@ -247,7 +306,7 @@ fn a_lease_service_is_asked(rt: HostRuntime) {
         let service = TcpListener::bind(&rt, "127.0.0.1:0").expect(&rt, "a listener");
         let other = TcpListener::bind(&rt, "127.0.0.1:0").expect(&rt, "a listener");
         other.set_nonblocking(true).expect(&rt, "no waiting");
-        let config = config_of(rt, alloc, row.database, row.candidate, &service);
+        let config = config_of(rt, alloc, row, &service);
         let closing = Closing::new(alloc).expect(&rt, "memory");
         let theirs = closing.another().expect(&rt, "memory");
         let mut maker = SystemMaker::new(rt, closing).expect(&rt, "a maker");

@@ -3,14 +3,14 @@ use super::{HELD, Heard, IDLE, LEASE, Meets, OTHER_KEY, OWN_KEY, RANGE, Row, are
 use etcd_lease::Held;
 use std::net::{TcpListener, TcpStream};
 
-/// A key whose value is no base64; one whose value is no JSON; one of another shape; one without a value.
+/// A key whose value is no base64; one whose value is no JSON; one that says that nobody is primary; one without a value.
 const NO_CODE: &str =
     ",\"kvs\":[{\"create_revision\":\"3\",\"lease\":\"9\",\"value\":\"eyJ!\"}],\"count\":\"1\"";
 
 const NO_JSON: &str =
     ",\"kvs\":[{\"create_revision\":\"3\",\"lease\":\"9\",\"value\":\"aGVsbG8=\"}],\"count\":\"1\"";
 
-const NO_GRANT: &str =
+const EMPTY: &str =
     ",\"kvs\":[{\"create_revision\":\"3\",\"lease\":\"9\",\"value\":\"e30=\"}],\"count\":\"1\"";
 
 const NO_VALUE: &str = ",\"kvs\":[{\"create_revision\":\"3\",\"lease\":\"9\"}],\"count\":\"1\"";
@@ -53,12 +53,14 @@ const WHO: &[Row] = &[
         name: "its own key",
         held: Some(HELD),
         meets: &[Meets::Says(OWN_KEY)],
+        heard: Heard::Nobody,
         after: Some(HELD),
         ..ASKED
     },
     Row {
         name: "nobody",
         meets: &[Meets::Says("")],
+        heard: Heard::Nobody,
         ..ASKED
     },
     Row {
@@ -72,8 +74,9 @@ const WHO: &[Row] = &[
         ..ASKED
     },
     Row {
-        name: "no grant",
-        meets: &[Meets::Says(NO_GRANT)],
+        name: "a key that says that nobody is primary",
+        meets: &[Meets::Says(EMPTY)],
+        heard: Heard::Nobody,
         ..ASKED
     },
     Row {

@@ -122,7 +122,6 @@ const SILENT: &[(Who, &str)] = &[
     (HOLDER, "SSH-2.0-OpenSSH_9.6\r\n"),
     (FOLLOWER, HELD),
     (FOLLOWER, LATE),
-    (FOLLOWER, NONE),
     (FOLLOWER, RENEWED),
     (
         FOLLOWER,
@@ -167,6 +166,14 @@ fn is_heard<R: Handles + Abort + Copy>(rt: R, alloc: Global, row: &Row, size: us
     same(rt, written.as_slice(), request_of(who).as_bytes());
 }
 
+/// The same where nobody is primary: the machine hears nothing, and the end says it.
+fn is_nobody<R: Handles + Abort + Copy>(rt: R, alloc: Global, size: usize) {
+    let (account, end, written) = round_of(rt, alloc, FOLLOWER, NONE, size);
+    same(rt, (size, end), (size, End::Nobody));
+    same(rt, (size, account), (size, account_of(Heard::Nothing)));
+    same(rt, written.as_slice(), request_of(FOLLOWER).as_bytes());
+}
+
 /// The same with a reply that tells nothing: the term stays.
 fn is_silent<R: Handles + Abort + Copy>(
     rt: R,
@@ -190,6 +197,14 @@ fn replies_that_tell(rt: HostRuntime) {
         for size in [1usize, 7, 99_999] {
             is_heard(rt, rt.alloc(), row, size);
         }
+    }
+}
+
+#[test]
+fn a_reply_that_nobody_is_primary(rt: HostRuntime) {
+    let _named: Option<(TcpListener, TcpStream)> = None;
+    for size in [1usize, 7, 99_999] {
+        is_nobody(rt, rt.alloc(), size);
     }
 }
 

@@ -42,6 +42,9 @@ returns-in-Type c = rw c.in-Type.is (fits_from IsLeaseType _ c.lease_type.result
 pub returns-in-Candidate : goal.returns-in-Candidate
 returns-in-Candidate c = rw c.in-Candidate.is (fits_from IsFlag _ c.flag.result c.judged-in-Candidate.result c.flag.ensures c.judged-in-Candidate.ensures)
 
+pub returns-in-Bootstrap : goal.returns-in-Bootstrap
+returns-in-Bootstrap c = rw c.in-Bootstrap.is (fits_from IsFlag _ c.flag-in-Bootstrap.result c.judged-in-Bootstrap.result c.flag-in-Bootstrap.ensures c.judged-in-Bootstrap.ensures)
+
 pub returns-in-AdvertiseUrl : goal.returns-in-AdvertiseUrl
 returns-in-AdvertiseUrl c = rw c.in-AdvertiseUrl.is (fits_from IsUrlText _ c.url.result c.judged-in-AdvertiseUrl.result c.url.ensures c.judged-in-AdvertiseUrl.ensures)
 

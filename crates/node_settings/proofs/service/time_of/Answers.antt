@@ -35,6 +35,7 @@ pub returns : goal.returns
 returns c = record {
   kind = c.in_ok-_type._type;
   candidate = c.in_ok-_candidate._candidate;
+  bootstrap = c.in_ok-_bootstrap._bootstrap;
   advertise_url = c.in_ok-_advertised._advertised;
   hostname = c.in_ok-_hostname._hostname;
   service_url = c.in_ok-_service._service;
@@ -44,6 +45,7 @@ returns c = record {
   keys = c.in_ok-check_lease_keys.ensures.ok;
   a_type = c.in_ok-_type.ensures;
   a_flag = c.in_ok-_candidate.ensures;
+  begun = c.in_ok-_bootstrap.ensures;
   advertised = c.in_ok-_advertised.ensures;
   named = c.in_ok-_hostname.ensures;
   served = c.in_ok-_service.ensures;
