@@ -10,7 +10,7 @@ PAGES = {'OPERATING': 'docs/OPERATING.md', 'TROUBLESHOOTING': 'docs/TROUBLESHOOT
          'COMMANDS': 'docs/COMMANDS.md', 'CONTRIBUTING': 'CONTRIBUTING.md'}
 FENCED = r'^```(?P<kind>(?:sh|console)(?: mount| etcd)?)\n(?P<body>.*?)^```$'
 PARTS = re.compile(rf'^#+ (?P<head>[^\n]*)$|{FENCED}|^(?P<row>\|[^\n]*\| (?:run|proves) \|)$', re.M | re.S)
-TAKES_LONG = r'rt (ci|check|run|test|try|must-fail)\b.*|\./check( scripts)?'
+TAKES_LONG = r'rt (ci|check|run|test|try|must-fail)\b.*|\./check( scripts| planted .*)?'
 WORD = r'\brt [a-z-]+'
 Part = collections.namedtuple('Part', 'kind text name')
 

@@ -20,6 +20,3 @@ mod words;
 pub use crc::{FIRST_REGISTER, crc_feed, crc64, pieces_join};
 pub use sums::{CHECKSUM_FLAG, page_sum};
 pub use table::Sums;
-
-#[cfg(test)]
-mod tests;
