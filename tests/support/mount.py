@@ -48,15 +48,17 @@ def need_rust():
 class Mount:
     """A node's files at a new folder. Unmounted and removed at the end of its block.
 
-    `way`: how the shared memory is to be shared, or none for the best there is. `socket`: another than the node's."""
+    `way`: how the shared memory is to be shared, or none for the best there is. `socket`: another than the node's. `before`: a command
+    that starts the program."""
 
-    def __init__(self, node, way=None, options=(), socket=None, words=(), starts=True):
+    def __init__(self, node, way=None, options=(), socket=None, words=(), starts=True, before=()):
         self.node = node
         self.way = way
         more = os.environ.get('LITEFS_FUSE_OPTIONS', '').split(',')
         self.options = [f'name={node.database}', *options, *more, *(['notify'] if way == 'notify' else [])]
         self.socket = socket or node.socket
         self.words = list(words)
+        self.before = list(before)
         self.folder = tempfile.mkdtemp(prefix='litefs-mount-')
         self.path = os.path.join(self.folder, node.database)
         self.said = tempfile.NamedTemporaryFile(prefix='litefs-mount-errors-')
@@ -76,7 +78,7 @@ class Mount:
         """Mounts, and waits until it has. It would also end with this script, however the script ends."""
         self.said.truncate(0)
         with open(self.said.name, 'ab') as errors:
-            command = [fuse_program(), self.socket, self.folder, '-o', ','.join(self.options), UNTIL_WE_END, *self.words]
+            command = [*self.before, fuse_program(), self.socket, self.folder, '-o', ','.join(self.options), UNTIL_WE_END, *self.words]
             self.process = subprocess.Popen(command, stdin=subprocess.PIPE, stdout=subprocess.DEVNULL, stderr=errors,
                                             start_new_session=True)
         until(self.is_ready, 'the folder is mounted')
@@ -133,9 +135,9 @@ class Mount:
         made.execute('create table t(a integer primary key,b,c)')
         return made
 
-    def client(self, code, **more):
-        """A process that runs Python, with `path`, `connect()` and `said(text)`."""
-        return subprocess.Popen([sys.executable, '-c', PRELUDE.format(path=self.path) + code], stdout=subprocess.PIPE,
+    def client(self, code, before=(), **more):
+        """A process that runs Python, with `path`, `connect()` and `said(text)`; `before`: a command that starts it."""
+        return subprocess.Popen([*before, sys.executable, '-c', PRELUDE.format(path=self.path) + code], stdout=subprocess.PIPE,
                                 stderr=subprocess.STDOUT, text=True, **more)
 
 

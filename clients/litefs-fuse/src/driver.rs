@@ -1,15 +1,18 @@
 //! The loop around the machine: it waits for the device, the node and the notifier, hands over what comes, and does what
 //! the machine wants.
 
+mod links;
+mod processes;
+
 use crate::bytes::{put_u32, put_u64, u32_at};
-use crate::connection::Connection;
 use crate::device::{Device, Got};
-use crate::foreign::{polled, wait_ready, ENDED, READABLE, WRITABLE};
+use crate::foreign::{polled, wait_ready, READABLE};
 use crate::machine::output::{Action, Reply};
 use crate::machine::Machine;
 use crate::memory::{Memory, Noted, Passed};
 use crate::notifier::{Done, Note, Notifier, Told};
 use crate::wire::{errno, opcode, REQUEST_HEAD};
+use links::Links;
 use std::io::Result;
 use std::time::{Duration, Instant, SystemTime, UNIX_EPOCH};
 
@@ -22,11 +25,17 @@ const BURST: usize = 64;
 /// Where the data of the answer to NOTIFY_RETRIEVE begin.
 const RETRIEVED_AT: usize = REQUEST_HEAD + 40;
 
+/// What has something to be taken.
+struct Ready {
+    device: bool,
+    links: [bool; 2],
+    told: bool,
+}
+
 pub struct Driver {
-    socket: String,
     machine: Machine,
     device: Device,
-    link: Option<Connection>,
+    links: Links,
     memory: Option<Box<dyn Memory>>,
     notifier: Option<Notifier>,
     told: Option<Told>,
@@ -35,12 +44,12 @@ pub struct Driver {
 }
 
 impl Driver {
-    pub fn new(socket: &str, machine: Machine, device: Device) -> Driver {
+    pub fn new(socket: &str, mut machine: Machine, device: Device) -> Driver {
+        machine.see_processes(processes::processes());
         Driver {
-            socket: socket.to_string(),
             machine,
             device,
-            link: None,
+            links: Links::new(socket),
             memory: None,
             notifier: None,
             told: None,
@@ -52,15 +61,15 @@ impl Driver {
     /// Serves the kernel until it has unmounted.
     pub fn run(&mut self) -> Result<()> {
         while !self.stopped {
-            let (device, link, told) = self.wait()?;
+            let ready = self.wait()?;
             self.machine.set_time(now());
-            if told {
+            if ready.told {
                 self.take_told();
             }
-            if link {
-                self.take_replies();
+            if !self.links.receive(ready.links, &mut self.machine) {
+                self.hang_up();
             }
-            if device {
+            if ready.device {
                 self.take_requests()?;
             }
             if self.machine.is_waiting() && self.ticked.elapsed() >= TICK {
@@ -72,14 +81,10 @@ impl Driver {
         Ok(())
     }
 
-    /// Waits for one of the three; tells which are ready.
-    fn wait(&mut self) -> Result<(bool, bool, bool)> {
+    /// Waits for one of them; tells which are ready.
+    fn wait(&mut self) -> Result<Ready> {
         let mut questions = vec![polled(&self.device.file, READABLE)];
-        let link_at = self.link.as_ref().map(|link| {
-            let wanted = READABLE | ENDED | if link.is_behind() { WRITABLE } else { 0 };
-            questions.push(polled(&link.stream, wanted));
-            questions.len() - 1
-        });
+        let links_at = self.links.ask(&mut questions);
         let told_at = self.told.as_ref().map(|told| {
             questions.push(polled(&told.stream, READABLE));
             questions.len() - 1
@@ -87,7 +92,7 @@ impl Driver {
         let patience = if self.machine.is_waiting() { TICK.as_millis() as i32 } else { -1 };
         wait_ready(&mut questions, patience)?;
         let ready = |at: Option<usize>| at.is_some_and(|at| questions[at].ready != 0);
-        Ok((ready(Some(0)), ready(link_at), ready(told_at)))
+        Ok(Ready { device: ready(Some(0)), links: links_at.map(ready), told: ready(told_at) })
     }
 
     fn take_told(&mut self) {
@@ -96,14 +101,6 @@ impl Driver {
                 Done::Put => self.machine.put_done(),
                 Done::Dropped => self.machine.dropped(),
             }
-        }
-    }
-
-    fn take_replies(&mut self) {
-        let Some(link) = &mut self.link else { return };
-        let machine = &mut self.machine;
-        if !link.receive(|reply| machine.node(reply)) {
-            self.hang_up();
         }
     }
 
@@ -118,11 +115,8 @@ impl Driver {
                         self.machine.fetched(&header);
                         continue;
                     }
-                    if self.link.is_none() && self.memory.is_some() {
-                        self.link = Connection::open(&self.socket).ok();
-                        if self.link.is_some() {
-                            self.machine.link_up();
-                        }
+                    if !self.links.are_up() && self.memory.is_some() && self.links.make() {
+                        self.machine.link_up();
                     }
                     self.machine.kernel(request);
                 }
@@ -137,7 +131,7 @@ impl Driver {
     }
 
     fn hang_up(&mut self) {
-        if self.link.take().is_some() {
+        if self.links.close() {
             eprintln!("litefs-fuse: the link to the node is lost");
         }
         self.machine.link_down();
@@ -147,22 +141,14 @@ impl Driver {
     fn act(&mut self) -> Result<()> {
         loop {
             let output = self.machine.take();
-            if output.to_node.is_empty() && output.actions.is_empty() {
-                break;
-            }
-            let sent = self.link.as_mut().map_or(Ok(()), |link| link.send(&output.to_node));
-            if sent.is_err() {
+            let is_sent = self.links.send(&output.to_node).is_ok();
+            if !is_sent {
                 self.hang_up();
+            } else if output.is_empty() {
+                return Ok(());
             }
             for action in output.actions {
                 self.perform(action)?;
-            }
-        }
-        match self.link.as_mut().filter(|link| link.is_behind()).map_or(Ok(()), |link| link.send(&[])) {
-            Ok(()) => Ok(()),
-            Err(_) => {
-                self.hang_up();
-                self.act()
             }
         }
     }

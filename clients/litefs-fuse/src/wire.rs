@@ -44,6 +44,7 @@ pub mod errno {
     pub const ENXIO: u32 = 6;
     pub const EBADF: u32 = 9;
     pub const EAGAIN: u32 = 11;
+    pub const EBUSY: u32 = 16;
     pub const ENOSPC: u32 = 28;
     pub const EROFS: u32 = 30;
     pub const ERANGE: u32 = 34;
@@ -75,6 +76,12 @@ pub mod open {
     pub const DIRECT_IO: u32 = 1;
     pub const KEEP_CACHE: u32 = 2;
     pub const PASSTHROUGH: u32 = 128;
+}
+
+/// What a SETATTR gives.
+pub mod attribute {
+    pub const SIZE: u32 = 1 << 3;
+    pub const LOCK_OWNER: u32 = 1 << 9;
 }
 
 /// Kinds of byte-range locks.

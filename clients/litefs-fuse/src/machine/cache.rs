@@ -16,7 +16,7 @@ use crate::wire::{errno, lock, Kind};
 use std::collections::VecDeque;
 
 /// The bytes of SQLite's lock SHARED.
-const SHARED: std::ops::RangeInclusive<u64> = 0x4000_0002..=0x4000_01ff;
+pub const SHARED: std::ops::RangeInclusive<u64> = 0x4000_0002..=0x4000_01ff;
 
 /// Who waits until the cache is dropped.
 pub enum Granted {
@@ -174,6 +174,7 @@ impl Machine {
 
     /// An owner's locks of the database go. One who held EXCLUSIVE may have written what goes with them.
     pub(super) fn database_flushed(&mut self, owner: u64) {
+        self.owners.left(owner, Kind::Database);
         self.cache.suspect |= self.cache.has_exclusive(owner);
         self.cache.hold(owner, None);
     }

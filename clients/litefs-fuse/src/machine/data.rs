@@ -24,6 +24,7 @@ impl Machine {
         if handle.kind == Kind::Database {
             self.on_database(request);
         }
+        self.on_journal(request, handle);
         let then = if request.opcode == opcode::READ { Then::Data { unique } } else { Then::Passed { unique } };
         let rest = request.body.get(8..).unwrap_or(&[]);
         self.send(request.caller, request.opcode, handle.kind, &[&handle.fh.to_le_bytes(), rest], then);

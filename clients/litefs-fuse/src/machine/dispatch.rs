@@ -49,6 +49,7 @@ impl Machine {
         match (request.opcode, kind) {
             (opcode::OPEN, _) => self.open(request, kind),
             (opcode::SETATTR, Kind::Shared) => self.resize_shared(request),
+            (opcode::SETATTR, Kind::Journal) => self.set_journal(request),
             _ => self.attributes(request, kind),
         }
     }

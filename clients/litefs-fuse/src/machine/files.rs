@@ -57,11 +57,19 @@ impl Files {
 
     /// Remembers the database's name by the name of one of its files.
     pub fn learn(&mut self, name: &[u8], kind: Kind) {
-        let ending = ENDINGS.iter().find(|(_, other)| *other == kind).map_or(&b""[..], |(ending, _)| ending);
         if self.name.is_none() && kind != Kind::Primary && kind != Kind::Root {
-            self.name = name.strip_suffix(ending).map(<[u8]>::to_vec);
+            self.name = name.strip_suffix(ending(kind)).map(<[u8]>::to_vec);
         }
     }
+
+    /// Whether the name is that of the database's file of this kind.
+    pub fn is_named(&self, name: &[u8], kind: Kind) -> bool {
+        self.name.is_some() && self.name.as_deref() == name.strip_suffix(ending(kind))
+    }
+}
+
+fn ending(kind: Kind) -> &'static [u8] {
+    ENDINGS.iter().find(|(_, other)| *other == kind).map_or(b"", |(ending, _)| ending)
 }
 
 /// The file that a name is the name of, where it is one of a node's.

@@ -23,6 +23,8 @@ pub struct LockRequest {
     pub start: u64,
     pub end: u64,
     pub wish: u32,
+    /// 0 where the kernel can't tell it to this program
+    pub process: u32,
     /// whether the process waits until the lock is free
     pub waits: bool,
     body: [u8; LOCK_BODY],
@@ -46,6 +48,7 @@ impl LockRequest {
             start: u64_at(&body, 16),
             end: u64_at(&body, 24),
             wish: u32_at(&body, 32),
+            process: u32_at(&body, 36),
             waits: request.opcode == opcode::SETLKW,
             body,
         }

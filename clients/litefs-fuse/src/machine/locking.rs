@@ -26,6 +26,7 @@ impl Machine {
         self.before_lock(wanted);
         self.send(wanted.caller, opcode::SETLK, wanted.kind, &[&body], Then::Ignored);
         self.unlocked(wanted);
+        self.owners.granted(wanted);
         self.accept(wanted.unique);
     }
 
@@ -51,8 +52,9 @@ impl Machine {
         self.answer_lock(&wanted, error);
     }
 
-    /// Remembers who locked by the handle, for its RELEASE.
+    /// Remembers what is held, and who locked by the handle, for its RELEASE.
     pub(super) fn keep_owner(&mut self, wanted: &LockRequest) {
+        self.owners.granted(wanted);
         if let Some(handle) = self.handles.get_mut(wanted.number) {
             handle.lock_owner = Some(wanted.owner);
         }

@@ -10,13 +10,16 @@ mod data;
 mod dispatch;
 mod files;
 mod handles;
-mod link;
+mod journal;
+pub mod link;
 mod listing;
 mod local;
 mod lock_request;
 mod locking;
+mod mark;
 mod names;
 mod opening;
+mod owners;
 pub mod output;
 mod position;
 mod request;
@@ -32,9 +35,11 @@ mod tests;
 use cache::Cache;
 use files::Files;
 use handles::Handles;
+use journal::Journal;
 use link::Link;
 use listing::Listing;
 use output::Output;
+use owners::Owners;
 use position::{Position, Time};
 use shared::Shared;
 use waits::Waits;
@@ -66,6 +71,10 @@ pub struct Machine {
     link: Link,
     files: Files,
     handles: Handles,
+    owners: Owners,
+    journal: Journal,
+    /// the process of a thread, where it can be seen
+    process_of: Box<dyn Fn(u32) -> Option<u32>>,
     position: Position,
     cache: Cache,
     shared: Shared,
@@ -82,6 +91,9 @@ impl Machine {
             now: (0, 0),
             link: Link::default(),
             handles: Handles::default(),
+            owners: Owners::default(),
+            journal: Journal::default(),
+            process_of: Box::new(|_| None),
             position: Position::default(),
             cache: Cache::default(),
             shared: Shared::default(),
@@ -89,6 +101,11 @@ impl Machine {
             listings: Vec::new(),
             output: Output::default(),
         }
+    }
+
+    /// From now on this tells the process of a thread.
+    pub fn see_processes(&mut self, process_of: Box<dyn Fn(u32) -> Option<u32>>) {
+        self.process_of = process_of;
     }
 
     /// Takes what has come together.

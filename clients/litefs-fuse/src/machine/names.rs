@@ -2,6 +2,7 @@
 
 use super::attributes::ENTRY;
 use super::files::kind_of;
+use super::journal::Journal;
 use super::output::{Action, Reply};
 use super::request::Request;
 use super::then::Then;
@@ -34,17 +35,27 @@ impl Machine {
         }
     }
 
-    /// UNLINK. The name of the database itself drops the database, which must be allowed.
+    /// UNLINK. The name of the database itself drops the database, which must be allowed. No process loses its journal or
+    /// its log to another.
     pub(super) fn unlink(&mut self, request: &Request) {
         let kind = kind_of(request.name(0));
-        if kind == Kind::Database && !self.settings.may_drop {
-            return self.refuse(request.unique, errno::EPERM);
+        match kind {
+            Kind::Database if !self.settings.may_drop => self.refuse(request.unique, errno::EPERM),
+            Kind::Journal if self.files.is_named(request.name(0), kind) => self.remove_journal(request),
+            Kind::Log | Kind::Shared if self.is_used_by_others(&request.caller) => self.refuse(request.unique, errno::EBUSY),
+            _ => self.remove(request, kind),
         }
+    }
+
+    fn remove(&mut self, request: &Request, kind: Kind) {
         let then = Then::Removed { unique: request.unique, kind };
         self.send(request.caller, opcode::UNLINK, Kind::Root, &[request.body], then);
     }
 
     pub(super) fn removed(&mut self, unique: u64, kind: Kind, result: Result<&[u8], u32>) {
+        if result.is_ok() && kind == Kind::Journal {
+            self.journal = Journal::default();
+        }
         if result.is_ok() && matches!(kind, Kind::Journal | Kind::Log | Kind::Shared) {
             self.files.renew(kind);
         }

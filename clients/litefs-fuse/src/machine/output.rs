@@ -52,8 +52,16 @@ pub enum Action {
 /// What has come together since the last look.
 #[derive(Default)]
 pub struct Output {
-    pub to_node: Vec<u8>,
+    /// on each of the two connections
+    pub to_node: [Vec<u8>; 2],
     pub actions: Vec<Action>,
+}
+
+impl Output {
+    /// Whether nothing has come together.
+    pub fn is_empty(&self) -> bool {
+        self.to_node.iter().all(Vec::is_empty) && self.actions.is_empty()
+    }
 }
 
 impl Reply {

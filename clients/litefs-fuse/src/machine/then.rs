@@ -1,5 +1,6 @@
 //! What follows the reply to a message.
 
+use super::journal::Removal;
 use super::lock_request::LockRequest;
 use super::opening::Open;
 use super::shared::steps::Step;
@@ -28,6 +29,8 @@ pub enum Then {
     Opened(Open),
     /// to CREATE
     Created { unique: u64 },
+    /// to the SETATTR before the UNLINK of the journal
+    JournalCut(Removal),
     /// to UNLINK
     Removed { unique: u64, kind: Kind },
     /// to SETLK
@@ -36,6 +39,9 @@ pub enum Then {
     Listed { unique: u64, index: usize },
     /// to a message about the shared memory
     Shared(Step),
+    /// to the OPEN of the lock file by which the mount is marked, and to that lock
+    MarkOpened,
+    Marked,
     /// to the OPEN and a READ of the position file
     PositionOpened,
     Position,
@@ -50,7 +56,7 @@ impl Machine {
     pub(super) fn answered(&mut self, then: Then, result: Result<&[u8], u32>) {
         match then {
             Then::Greeted => self.greeted(result),
-            Then::Ignored => {}
+            Then::Ignored | Then::Marked => {}
             Then::Passed { unique } => self.pass(unique, result),
             Then::Data { unique } => self.read_answered(unique, result),
             Then::Entry { unique, name } => self.looked_up(unique, &name, result),
@@ -59,10 +65,12 @@ impl Machine {
             Then::OpenAt(open) => self.open_at(open, result),
             Then::Opened(open) => self.opened(open, result),
             Then::Created { unique } => self.created(unique, result),
+            Then::JournalCut(removal) => self.journal_cut(removal, result),
             Then::Removed { unique, kind } => self.removed(unique, kind, result),
             Then::Locked(request) => self.lock_answered(request, result),
             Then::Listed { unique, index } => self.listed(unique, index, result),
             Then::Shared(step) => self.shared_answered(step, result),
+            Then::MarkOpened => self.mark_opened(result),
             Then::PositionOpened => self.position_opened(result),
             Then::Position => self.position_read(result),
             Then::Checked(wanted) => self.lock_checked(wanted, result),

@@ -1,8 +1,13 @@
-//! Processes that wait for a lock. Each is asked for again at every tick, and a signal ends the wait.
+//! Processes that wait for a lock. Each is asked for again at every tick, one of the lock file more and more seldom: there the
+//! node may have to ask the primary. A signal ends the wait.
 
 use super::lock_request::LockRequest;
 use super::Machine;
 use crate::wire::{errno, Kind};
+
+/// The most ticks from one question to the next, of the lock file and of others.
+const LONGEST: u32 = 25;
+const SHORTEST: u32 = 1;
 
 /// What is asked again.
 #[derive(Clone, Copy)]
@@ -14,6 +19,9 @@ pub enum Again {
 struct Wait {
     unique: u64,
     again: Again,
+    /// how many ticks it is left alone each time, and how many of them are left
+    step: u32,
+    left: u32,
     /// whether the node is being asked
     asked: bool,
     interrupted: bool,
@@ -24,7 +32,7 @@ pub struct Waits(Vec<Wait>);
 
 impl Waits {
     pub fn begin(&mut self, unique: u64, again: Again) {
-        self.0.push(Wait { unique, again, asked: true, interrupted: false });
+        self.0.push(Wait { unique, again, step: 0, left: 0, asked: true, interrupted: false });
     }
 
     pub fn end(&mut self, unique: u64) {
@@ -34,12 +42,31 @@ impl Waits {
     /// The lock is not free. Tells whether the wait has ended by a signal.
     pub fn refused(&mut self, unique: u64) -> bool {
         let Some(wait) = self.0.iter_mut().find(|wait| wait.unique == unique) else { return true };
-        wait.asked = false;
+        wait.rest();
         let ended = wait.interrupted;
         if ended {
             self.end(unique);
         }
         ended
+    }
+}
+
+impl Wait {
+    /// It is left alone for a while, twice as long as the last time.
+    fn rest(&mut self) {
+        let longest = match self.again {
+            Again::Plain(wanted) if wanted.kind == Kind::Lock => LONGEST,
+            _ => SHORTEST,
+        };
+        self.step = (2 * self.step).clamp(SHORTEST, longest);
+        self.left = self.step;
+        self.asked = false;
+    }
+
+    /// One tick more. Tells whether it is to be asked for now.
+    fn is_due(&mut self) -> bool {
+        self.left = self.left.saturating_sub(1);
+        !self.asked && self.left == 0
     }
 }
 
@@ -49,10 +76,10 @@ impl Machine {
         !self.waits.0.is_empty()
     }
 
-    /// Asks for every lock that is waited for.
+    /// Asks for every lock that is waited for and was left alone long enough.
     pub fn tick(&mut self) {
-        let idle = self.waits.0.iter_mut().filter(|wait| !wait.asked);
-        let again: Vec<Again> = idle
+        let due = self.waits.0.iter_mut().filter_map(|wait| wait.is_due().then_some(wait));
+        let again: Vec<Again> = due
             .map(|wait| {
                 wait.asked = true;
                 wait.again

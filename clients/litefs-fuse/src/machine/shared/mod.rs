@@ -15,6 +15,7 @@ use super::Machine;
 use crate::machine::output::Action;
 use crate::wire::Kind;
 use dms::Dms;
+pub use dms::OWN_OWNER;
 use header::Header;
 use queue::Queue;
 use writers::Writers;

@@ -233,8 +233,9 @@ impl Machine {
     fn finish_lock(&mut self, wanted: &LockRequest, error: u32, lost: bool) {
         if !lost && error == 0 {
             self.shared.writers.granted(wanted);
-            if !wanted.is_unlock() {
-                self.keep_owner(wanted);
+            match wanted.is_unlock() {
+                true => self.owners.granted(wanted),
+                false => self.keep_owner(wanted),
             }
         }
         if let (false, Some(before)) = (lost || error == 0, self.shared.queue.dms_before) {
@@ -249,6 +250,7 @@ impl Machine {
         if !lost {
             self.cache.suspect |= self.shared.writers.writes(owner);
             self.shared.writers.flushed(owner);
+            self.owners.left(owner, Kind::Shared);
             self.shared.dms.set(owner, generation, None);
             self.leave_dms(fh);
         }

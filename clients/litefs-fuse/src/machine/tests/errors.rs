@@ -2,6 +2,7 @@
 
 use super::trial::*;
 use crate::bytes::{u32_at, u64_at};
+use crate::machine::link::Way;
 use crate::machine::output::Action;
 use crate::machine::Settings;
 use crate::wire::opcode;
@@ -102,7 +103,7 @@ fn who_waits_for_a_lock_is_answered_when_the_link_is_lost() {
 fn a_reply_that_is_not_the_next_ends_the_link() {
     let mut trial = Trial::linked(Settings::default());
     trial.ask(opcode::LOOKUP, 1, b"app-wal\0");
-    trial.machine.node(&crate::machine::output::Reply::new(12_345, &[]).message);
+    trial.machine.node(Way::Main, &crate::machine::output::Reply::new(12_345, &[]).message);
     assert_eq!(trial.actions(), [Action::HangUp]);
     trial.cut();
     assert_eq!(trial.reply().1, Err(107));

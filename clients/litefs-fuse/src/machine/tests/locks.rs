@@ -37,11 +37,11 @@ fn an_unlock_is_sent_and_answered_at_once() {
 #[test]
 fn a_wait_is_asked_again_and_never_sent_as_a_wait() {
     let mut trial = Trial::linked(Settings::default());
-    let (number, handle) = trial.opened(b"app-lock", 7, 5);
+    let (number, handle) = trial.opened(b"app", DATABASE, 5);
     let unique = trial.ask(opcode::SETLKW, number, &lock(handle, 40, 72, 72, WRITE));
     assert!(trial.machine.is_waiting());
     for _ in 0..3 {
-        assert_eq!(trial.asked(), [(opcode::SETLK, 7)]);
+        assert_eq!(trial.asked(), [(opcode::SETLK, DATABASE)]);
         trial.answer(Err(11));
         assert_eq!(trial.replies(), []);
         trial.machine.tick();
@@ -55,7 +55,7 @@ fn a_wait_is_asked_again_and_never_sent_as_a_wait() {
 fn a_signal_ends_a_wait() {
     for asked in [false, true] {
         let mut trial = Trial::linked(Settings::default());
-        let (number, handle) = trial.opened(b"app-lock", 7, 5);
+        let (number, handle) = trial.opened(b"app-lock", LOCK_FILE, 5);
         let unique = trial.ask(opcode::SETLKW, number, &lock(handle, 40, 72, 72, WRITE));
         if !asked {
             trial.answer(Err(11));
@@ -73,7 +73,7 @@ fn a_signal_ends_a_wait() {
 #[test]
 fn a_lock_that_is_granted_as_a_signal_comes_is_granted() {
     let mut trial = Trial::linked(Settings::default());
-    let (number, handle) = trial.opened(b"app-lock", 7, 5);
+    let (number, handle) = trial.opened(b"app-lock", LOCK_FILE, 5);
     let unique = trial.ask(opcode::SETLKW, number, &lock(handle, 40, 72, 72, WRITE));
     trial.ask(opcode::INTERRUPT, 0, &unique.to_le_bytes());
     trial.answer(Ok(&[]));
@@ -83,7 +83,7 @@ fn a_lock_that_is_granted_as_a_signal_comes_is_granted() {
 #[test]
 fn the_locks_of_an_open_file_end_with_it() {
     let mut trial = Trial::linked(Settings::default());
-    let (number, handle) = trial.opened(b"app-lock", 7, 5);
+    let (number, handle) = trial.opened(b"app-lock", LOCK_FILE, 5);
     trial.ask(opcode::SETLK, number, &lock(handle, 40, 72, 72, WRITE));
     trial.answer(Ok(&[]));
     trial.ask(opcode::FLUSH, number, &closing(handle, 41));
@@ -106,4 +106,24 @@ fn what_its_owner_has_flushed_is_not_flushed_again() {
     trial.sent();
     trial.ask(opcode::RELEASE, number, &closing(handle, 0));
     assert_eq!(trial.asked(), [(opcode::RELEASE, DATABASE)]);
+}
+
+#[test]
+fn a_wait_for_a_lock_of_the_lock_file_is_asked_again_more_and_more_seldom() {
+    let mut trial = Trial::linked(Settings::default());
+    let (number, handle) = trial.opened(b"app-lock", LOCK_FILE, 5);
+    let unique = trial.ask(opcode::SETLKW, number, &lock(handle, 40, 72, 72, WRITE));
+    for ticks in [1, 2, 4, 8, 16, 25, 25] {
+        assert_eq!(trial.asked(), [(opcode::SETLK, LOCK_FILE)]);
+        trial.machine.tick();
+        trial.answer(Err(11));
+        for _ in 1..ticks {
+            trial.machine.tick();
+            assert_eq!((trial.sent(), trial.replies()), (vec![], vec![]));
+        }
+        trial.machine.tick();
+    }
+    trial.answer(Ok(&[]));
+    assert_eq!(trial.reply(), (unique, Ok(vec![])));
+    assert!(!trial.machine.is_waiting());
 }

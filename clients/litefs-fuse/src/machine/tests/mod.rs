@@ -4,9 +4,11 @@
 mod cache;
 mod errors;
 mod files;
+mod links;
 mod locks;
 mod names;
 mod recorded;
+mod removals;
 mod shared;
 mod shared_locks;
 mod trial;

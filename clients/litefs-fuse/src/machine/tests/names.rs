@@ -20,7 +20,7 @@ fn the_database_is_dropped_only_where_that_is_allowed() {
 
 #[test]
 fn a_removed_file_that_is_made_anew_has_another_number() {
-    for (name, node) in [(&b"app-journal"[..], JOURNAL), (b"app-wal", LOG), (b"app-shm", SHARED)] {
+    for (name, node) in [(&b"app-wal"[..], LOG), (b"app-shm", SHARED)] {
         let mut trial = Trial::linked(Settings::default());
         let before = trial.look_up(name, node);
         assert_eq!(trial.look_up(name, node), before);
@@ -39,8 +39,8 @@ fn a_removed_file_that_is_made_anew_has_another_number() {
 #[test]
 fn a_removed_file_is_stale_but_its_handle_can_be_closed() {
     let mut trial = Trial::linked(Settings::default());
-    let (number, handle) = trial.opened(b"app-journal", JOURNAL, 8);
-    trial.ask(opcode::UNLINK, 1, b"app-journal\0");
+    let (number, handle) = trial.opened(b"app-wal", LOG, 8);
+    trial.ask(opcode::UNLINK, 1, b"app-wal\0");
     trial.answer(Ok(&[]));
     let _ = trial.reply();
     trial.sent();

@@ -1,9 +1,11 @@
 //! A recorded conversation: what the kernel and a node sent while two connections of SQLite 3.40.1 worked in the modes DELETE
 //! and WAL on a real mount (Linux 6.18, passthrough), taken from outside by strace. Each line is one thing that came:
 //! a request, a reply, the link, the header as it stood in the shared memory. What the machine made of them is not
-//! recorded; it must be what the rules say.
+//! recorded; it must be what the rules say. Five replies were put in since, to messages that this program didn't send then:
+//! to those by which it marks the mount, and to the cut before each removal of the journal.
 
 use crate::bytes::{u32_at, u64_at};
+use crate::machine::link::Way;
 use crate::machine::output::{Action, Output};
 use crate::machine::{Machine, Settings, HEADER};
 use crate::wire::{lock, opcode};
@@ -42,7 +44,7 @@ fn replay() -> Replayed {
             }
             "node" => {
                 all.node_replies += 1;
-                machine.node(&came);
+                machine.node(Way::Main, &came);
             }
             "up" => machine.link_up(),
             "fetched" => machine.fetched(&came),
@@ -56,7 +58,7 @@ fn replay() -> Replayed {
 
 impl Replayed {
     fn gather(&mut self, output: Output) {
-        let mut rest = &output.to_node[..];
+        let mut rest = &output.to_node[Way::Main as usize][..];
         while !rest.is_empty() {
             let (message, more) = rest.split_at(u32_at(rest, 0) as usize);
             self.messages.push(message.to_vec());

@@ -1,6 +1,7 @@
 //! A machine with a kernel on one side and a node on the other, both played by the test.
 
 use crate::bytes::{put_u32, put_u64, u32_at, u64_at};
+use crate::machine::link::{Way, WAYS};
 use crate::machine::output::{Action, Reply};
 use crate::machine::{Machine, Settings};
 use crate::wire::opcode;
@@ -9,6 +10,7 @@ use std::collections::VecDeque;
 /// A message to the node.
 #[derive(Clone, Debug, PartialEq, Eq)]
 pub struct Sent {
+    pub way: Way,
     pub opcode: u32,
     pub node: u64,
     pub unique: u64,
@@ -29,6 +31,10 @@ pub const JOURNAL: u64 = 3;
 pub const LOG: u64 = 4;
 pub const SHARED: u64 = 5;
 pub const POSITION: u64 = 6;
+pub const LOCK_FILE: u64 = 7;
+
+/// The thread of the kernel's requests, which is the first of its process.
+pub const THREAD: u32 = 77;
 
 impl Trial {
     pub fn new(settings: Settings) -> Trial {
@@ -53,7 +59,9 @@ impl Trial {
         self.machine.link_up();
         self.answer(Ok(&[0; 64]));
         self.answer(Ok(&opened(99)));
+        self.answer(Ok(&opened(98)));
         self.answer(Ok(b"position one\n"));
+        self.answer(Ok(&[]));
         self.sent();
         self.actions();
     }
@@ -65,6 +73,11 @@ impl Trial {
 
     /// A request of the kernel; answers its number.
     pub fn ask(&mut self, opcode: u32, node: u64, body: &[u8]) -> u64 {
+        self.ask_by(THREAD, opcode, node, body)
+    }
+
+    /// A request that comes from a thread.
+    pub fn ask_by(&mut self, thread: u32, opcode: u32, node: u64, body: &[u8]) -> u64 {
         self.unique += 2;
         let mut message = vec![0; 40];
         message.extend_from_slice(body);
@@ -74,21 +87,38 @@ impl Trial {
         put_u64(&mut message, 8, self.unique);
         put_u64(&mut message, 16, node);
         put_u32(&mut message, 24, 501);
-        put_u32(&mut message, 32, 77);
+        put_u32(&mut message, 32, thread);
         self.machine.kernel(&message);
         self.gather();
         self.unique
     }
 
-    /// The node's reply to its oldest message.
+    /// The node's reply to the oldest message.
     pub fn answer(&mut self, result: Result<&[u8], u32>) {
         self.gather();
-        let message = self.unanswered.pop_front().expect("the node has a message to answer");
+        let message = self.unanswered.front().cloned().expect("the node has a message to answer");
+        self.answer_to(&message, result);
+    }
+
+    /// Empty replies to all messages.
+    pub fn answer_all(&mut self) {
+        while self.has_unanswered() {
+            self.answer(Ok(&[]));
+        }
+    }
+
+    pub fn has_unanswered(&self) -> bool {
+        !self.unanswered.is_empty()
+    }
+
+    /// The node's reply to a message.
+    pub fn answer_to(&mut self, message: &Sent, result: Result<&[u8], u32>) {
+        self.unanswered.retain(|other| other != message);
         let reply = match result {
             Ok(body) => Reply::new(message.unique, body),
             Err(error) => Reply::refusal(message.unique, error),
         };
-        self.machine.node(&reply.message);
+        self.machine.node(message.way, &reply.message);
         self.gather();
     }
 
@@ -122,20 +152,28 @@ impl Trial {
 
     fn gather(&mut self) {
         let output = self.machine.take();
-        let mut bytes = &output.to_node[..];
+        WAYS.into_iter().for_each(|way| self.gather_from(way, &output.to_node[way as usize]));
+        self.actions.extend(output.actions);
+    }
+
+    /// The first message of the second connection is answered at once.
+    fn gather_from(&mut self, way: Way, mut bytes: &[u8]) {
         while !bytes.is_empty() {
             let (message, rest) = bytes.split_at(u32_at(bytes, 0) as usize);
             let sent = Sent {
+                way,
                 opcode: u32_at(message, 4),
                 unique: u64_at(message, 8),
                 node: u64_at(message, 16),
                 body: message[40..].to_vec(),
             };
             self.sent.push(sent.clone());
-            self.unanswered.push_back(sent);
+            match (way, sent.opcode) {
+                (Way::LockFile, opcode::INIT) => self.machine.node(way, &Reply::new(sent.unique, &[0; 64]).message),
+                _ => self.unanswered.push_back(sent),
+            }
             bytes = rest;
         }
-        self.actions.extend(output.actions);
     }
 
     /// Looks a name up, answered by the node's number.
