@@ -12,11 +12,10 @@ import os
 import shutil
 import signal
 import sqlite3
-import subprocess
 import time
 
 from support import KEEP_ALL, MODES, Node, Skipped, configuration, holds, insert, places, run, same, seen_by, until
-from support.mount import UNTIL_WE_END, fuse_program, why_no_mount
+from support.mount import UNTIL_WE_END, fuse_program, mounted_at, uncovered, why_no_mount
 
 STAND_IN = '''#!/bin/sh
 echo "$(date +%s%N) $*" >> starts
@@ -178,22 +177,17 @@ def mounted(following=None):
 
 def is_live(folder):
     try:
-        return os.path.ismount(folder)
+        return mounted_at(folder)[-1:] == ['fuse.litefs'] and os.path.ismount(folder)
     except OSError:
         return False
 
 
 def unmounted(folder):
+    """The program has left the folder. What covers it is taken away, as the unit does it."""
     try:
-        until(lambda: not is_mounted(folder), 'the folder is unmounted')
+        until(lambda: 'fuse.litefs' not in mounted_at(folder), 'the folder is unmounted')
     finally:
-        if is_mounted(folder):
-            subprocess.run(['umount', '-l', folder], capture_output=True)
-
-
-def is_mounted(folder):
-    with open('/proc/self/mountinfo') as file:
-        return any(line.split()[4] == os.path.realpath(os.path.dirname(folder)) + '/m' for line in file)
+        uncovered(folder)
 
 
 def opened(folder):
@@ -254,7 +248,7 @@ def node_ends():
                     user.close()
                 node.process.send_signal(how)
                 node.process.wait(60)
-                until(lambda: not is_mounted(folder), f'the mount goes after {how.name}')
+                until(lambda: mounted_at(folder) == ['tmpfs'], f'the mount goes after {how.name}, and the folder stays covered')
                 until(lambda: not programs(node), 'the program ends')
                 same(os.listdir(folder), [], 'the folder')
                 with contextlib.suppress(sqlite3.Error):

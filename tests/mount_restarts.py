@@ -3,8 +3,8 @@
 unmounted in use, the program's standard input ends, another run of it has the folder.
 
 At most: 1200 seconds.
-Seen to fail: with locks of a lost link refused (`node`: an open connection in WAL mode says `database is locked`); without the
-clearing of a dead mount (`program`)"""
+Seen to fail: with locks of a lost link refused (`node`: an open connection in WAL mode says `database is locked`); with a second process that
+ends before it has taken the cover away (`auto_unmount`)"""
 import contextlib
 import os
 import signal
@@ -12,7 +12,7 @@ import sqlite3
 import subprocess
 
 from support import Node, holds, insert, refuses, run, same, seen_by, until
-from support.mount import UNTIL_WE_END, Mount, ended, fuse_program, in_each_way, need_mount
+from support.mount import UNTIL_WE_END, Mount, ended, fuse_program, in_each_way, mounted_at, need_mount
 
 MODES = ('delete', 'wal')
 
@@ -84,8 +84,8 @@ def program_killed(way):
             writer.execute('begin immediate')
             writer.execute(*insert(2))
             mount.kill()
-            holds(mount.is_dead(), 'the folder is a dead mount')
             refuses(lambda: writer.execute('commit'), sqlite3.Error, 'a commit without the program')
+            until(lambda: mounted_at(mount.folder) == ['tmpfs'], 'the folder is covered')
             mount.start()
             other = mount.connect()
             same(other.execute('select count(*) from t').fetchone(), (1,), 'rows after the program was started again')
@@ -124,7 +124,8 @@ def ends_in_order(way):
             else:
                 mount.process.stdin.close()
             until(lambda: mount.process.poll() is not None, 'the program ends')
-            same((mount.process.returncode, os.path.ismount(mount.folder), os.listdir(mount.folder)), (0, False, []), end)
+            left = [] if end == 'signal' else ['tmpfs']
+            same((mount.process.returncode, mounted_at(mount.folder), os.listdir(mount.folder)), (0, left, []), end)
             if end == 'input in use':
                 refuses(lambda: user.execute(*insert(1)), sqlite3.Error, 'a write without the program')
 
@@ -156,7 +157,7 @@ def unmounted_after_a_kill(way):
     with Node() as node, Mount(node, way, ['auto_unmount']) as mount:
         mount.in_mode('wal').close()
         mount.kill()
-        until(lambda: not mount.is_dead() and not os.path.ismount(mount.folder), 'the folder is unmounted')
+        until(lambda: not mounted_at(mount.folder), 'the folder is unmounted')
 
 
 need_mount()

@@ -3,8 +3,8 @@
 allow_other and then as the files' modes say.
 
 At most: 600 seconds.
-Seen to fail: with mount(2) for an ordinary user (`ordinary_user`: Operation not permitted); with allow_other left out of the
-mount's options (`others`); with the drop-in as it was, which left the unit's group as it is (`drop_in`: Permission denied)"""
+Seen to fail: with mount(2) for an ordinary user (`ordinary_user`: Operation not permitted); without a cover or closed modes
+(`ordinary_user`, `user_namespace`: a folder can be made there); with allow_other left out of the mount's options (`others`); with the drop-in as it was, which left the unit's group as it is (`drop_in`: Permission denied)"""
 import configparser
 import grp
 import os
@@ -21,9 +21,21 @@ NOBODY = 65534
 SCRIPT = '''
 import os, sqlite3, subprocess, sys, time
 program, socket, folder = sys.argv[1:4]
-mount = subprocess.Popen([program, socket, folder, '-o', 'name=app', '--until-stdin-ends'], stdin=subprocess.PIPE, stderr=subprocess.PIPE, text=True)
-said = mount.stderr.readline()
-if 'mounted' not in said: print('no mount:', said); sys.exit()
+def started():
+    mount = subprocess.Popen([program, socket, folder, '-o', 'name=app', '--until-stdin-ends'], stdin=subprocess.PIPE, stderr=subprocess.PIPE, text=True)
+    said = mount.stderr.readline()
+    if 'mounted' not in said: print('no mount:', said); sys.exit()
+    return mount, said
+def left():
+    try:
+        os.mkdir(folder + '/new')
+        os.rmdir(folder + '/new')
+        return 'open'
+    except OSError as error: return error.strerror
+def shows_app():
+    try: return 'app' in os.listdir(folder)
+    except OSError: return True
+mount, said = started()
 c = sqlite3.connect(folder + '/app', isolation_level=None, timeout=60)
 for mode in ('wal', 'delete'):
     c.execute('pragma journal_mode=' + mode).fetchall()
@@ -32,9 +44,19 @@ for mode in ('wal', 'delete'):
 print(said.strip().split()[-1], os.stat(folder + '/app').st_uid == os.getuid(), c.execute('select count(*) from in_wal').fetchall())
 c.close()
 mount.stdin.close()
-print(mount.wait(60), os.listdir(folder))
+print(mount.wait(60), os.listdir(folder), left())
+mount, said = started()
+mount.terminate()
+print(mount.wait(60), os.listdir(folder), left())
+mount, said = started()
+mount.kill()
+mount.wait()
+until = time.monotonic() + 20
+while shows_app() and time.monotonic() < until: time.sleep(0.01)
+print(left())
+started()[0].terminate()
 '''
-WELL = "notify True [(1,)]\n0 []\n"
+WELL = "notify True [(1,)]\n0 [] {closed}\n0 [] open\n{closed}\n"
 
 
 AS_NOBODY = ['setpriv', f'--reuid={NOBODY}', f'--regid={NOBODY}', '--clear-groups']
@@ -76,12 +98,12 @@ def ordinary_user():
     if not helper or not os.stat(helper).st_mode & stat.S_ISUID:
         raise Skipped('no fusermount3 here, or none that is set-user-ID root')
     with Node() as node:
-        same(tried(node, []), WELL, 'a mount of an ordinary user')
+        same(tried(node, []), WELL.format(closed='Permission denied'), 'a mount of an ordinary user')
 
 
 def user_namespace():
     with Node() as node:
-        same(tried(node, ['unshare', '-Urm']), WELL, "a mount in a user's namespace")
+        same(tried(node, ['unshare', '-Urm']), WELL.format(closed='Read-only file system'), "a mount in a user's namespace")
 
 
 def others():
@@ -118,7 +140,8 @@ def drop_in():
         with subprocess.Popen(words, stdin=subprocess.PIPE, stderr=subprocess.PIPE, text=True) as mount:
             holds('mounted' in mount.stderr.readline(), 'it is mounted')
             same(subprocess.run(['ls', folder], capture_output=True, text=True, timeout=60).stderr, '', 'what ls complains of')
-            mount.stdin.close()
+            mount.terminate()
+            mount.wait(60)
 
 
 need_mount()

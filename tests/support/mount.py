@@ -3,6 +3,7 @@ LITEFS_FUSE_OPTIONS are added to every mount's."""
 import functools
 import os
 import re
+import shutil
 import sqlite3
 import subprocess
 import sys
@@ -63,6 +64,7 @@ class Mount:
         self.path = os.path.join(self.folder, node.database)
         self.said = tempfile.NamedTemporaryFile(prefix='litefs-mount-errors-')
         self.process = None
+        self.started = False
         if starts:
             self.start()
 
@@ -71,7 +73,7 @@ class Mount:
 
     def __exit__(self, *_):
         self.end()
-        os.rmdir(self.folder)
+        shutil.rmtree(self.folder)
         self.said.close()
 
     def start(self):
@@ -82,14 +84,15 @@ class Mount:
             self.process = subprocess.Popen(command, stdin=subprocess.PIPE, stdout=subprocess.DEVNULL, stderr=errors,
                                             start_new_session=True)
         until(self.is_ready, 'the folder is mounted')
+        self.started = True
         if self.way == 'passthrough' and 'by passthrough' not in self.errors():
             self.end()
             raise Skipped('this kernel and user have no passthrough')
 
     def is_ready(self):
         if self.process.poll() is not None:
-            raise Skipped(f'no mount: {self.errors()}')
-        return 'litefs-fuse: mounted' in self.errors()
+            raise (Wrong if self.started else Skipped)(f'no mount: {self.errors()}')
+        return re.search('^litefs-fuse: mounted.*\n', self.errors(), re.M)
 
     def errors(self):
         with open(self.said.name) as file:
@@ -111,6 +114,7 @@ class Mount:
             self.process.wait()
         self.process.stdin.close()
         self.process = None
+        uncovered(self.folder)
 
     def is_dead(self):
         try:
@@ -120,7 +124,7 @@ class Mount:
             return True
 
     def kill(self):
-        """Ends the program at once. The folder stays a mount that answers nothing."""
+        """Ends the program at once. The folder is a small empty file system then, and who has a file open is answered by another process."""
         self.process.kill()
         self.process.wait()
 
@@ -139,6 +143,19 @@ class Mount:
         """A process that runs Python, with `path`, `connect()` and `said(text)`; `before`: a command that starts it."""
         return subprocess.Popen([*before, sys.executable, '-c', PRELUDE.format(path=self.path) + code], stdout=subprocess.PIPE,
                                 stderr=subprocess.STDOUT, text=True, **more)
+
+
+def uncovered(folder):
+    """Unmounts what stays at a folder where the program was killed."""
+    while mounted_at(folder):
+        subprocess.run(['umount', '-l', folder], capture_output=True)
+
+
+def mounted_at(folder):
+    """The kinds of file systems that are mounted there, the first below the others."""
+    with open('/proc/self/mountinfo') as file:
+        lines = [line.split(' - ') for line in file]
+    return [kind.split()[0] for place, kind in lines if place.split()[4] == os.path.realpath(folder)]
 
 
 def ended(process, limit=90):
@@ -161,8 +178,9 @@ def why_no_mount():
         command = [fuse_program(), folder + '.sock', folder, UNTIL_WE_END]
         tried = subprocess.Popen(command, stdin=subprocess.PIPE, stderr=subprocess.PIPE, text=True)
         said = tried.stderr.readline()
-        tried.stdin.close()
+        tried.terminate()
         tried.wait(60)
+        tried.stdin.close()
         return '' if 'mounted' in said else f'a mount is not possible: {said}'
     except Skipped as skipped:
         return str(skipped)

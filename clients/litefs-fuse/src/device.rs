@@ -1,5 +1,6 @@
 //! The device of the kernel: a read gives one request, a write takes one reply.
 
+use crate::foreign::{polled, wait_ready, FAILED};
 use crate::wire::MAX_MESSAGE;
 use std::fs::File;
 use std::io::{ErrorKind, Result, Write};
@@ -22,6 +23,13 @@ pub struct Device {
 const ENODEV: i32 = 19;
 /// The request was ended by a signal before it was read, or the one that is answered was.
 const ENOENT: i32 = 2;
+
+/// Whether the kernel has unmounted, and no file is open any more.
+pub fn has_ended(file: &File) -> Result<bool> {
+    let mut question = [polled(file, 0)];
+    wait_ready(&mut question, 0)?;
+    Ok(question[0].ready & FAILED != 0)
+}
 
 impl Device {
     pub fn new(file: File) -> Device {

@@ -7,6 +7,7 @@ mod processes;
 use crate::bytes::{put_u32, put_u64, u32_at};
 use crate::device::{Device, Got};
 use crate::foreign::{polled, wait_ready, READABLE};
+use crate::guard::Guard;
 use crate::machine::output::{Action, Reply};
 use crate::machine::Machine;
 use crate::memory::{Memory, Noted, Passed};
@@ -39,6 +40,7 @@ pub struct Driver {
     memory: Option<Box<dyn Memory>>,
     notifier: Option<Notifier>,
     told: Option<Told>,
+    guard: Option<Guard>,
     ticked: Instant,
     stopped: bool,
 }
@@ -53,9 +55,15 @@ impl Driver {
             memory: None,
             notifier: None,
             told: None,
+            guard: None,
             ticked: Instant::now(),
             stopped: false,
         }
+    }
+
+    /// The guard is told of each new shared memory.
+    pub fn tell_memory(&mut self, guard: Guard) {
+        self.guard = Some(guard);
     }
 
     /// Serves the kernel until it has unmounted.
@@ -178,7 +186,10 @@ impl Driver {
     /// An action on the shared memory.
     fn on_memory(&mut self, memory: &mut dyn Memory, action: Action) -> Result<()> {
         match action {
-            Action::NewShared { node } => memory.renew(node)?,
+            Action::NewShared { node } => {
+                memory.renew(node)?;
+                self.guard.iter().for_each(|guard| guard.tell(node, memory.pages()));
+            }
             Action::CutShared { size } => complain(memory.cut(size)),
             Action::PutShared { node, pieces } => {
                 if memory.put(node, &pieces)? {

@@ -10,6 +10,7 @@ use std::ptr;
 /// Events of `poll`.
 pub const READABLE: i16 = 0x001;
 pub const WRITABLE: i16 = 0x004;
+pub const FAILED: i16 = 0x008;
 pub const ENDED: i16 = 0x2000;
 
 /// Signals that end the program in order.
@@ -23,11 +24,16 @@ const F_SETFL: c_int = 4;
 const O_RDWR: c_int = 2;
 const O_NONBLOCK: c_int = 0o4000;
 const MFD_CLOEXEC: c_uint = 1;
+const MS_RDONLY: c_ulong = 1;
 const MS_NOSUID: c_ulong = 2;
 const MS_NODEV: c_ulong = 4;
+const MS_NOEXEC: c_ulong = 8;
 const MNT_DETACH: c_int = 2;
 const SOL_SOCKET: c_int = 1;
 const SCM_RIGHTS: c_int = 1;
+const MSG_DONTWAIT: c_int = 0x40;
+const MSG_NOSIGNAL: c_int = 0x4000;
+const MSG_CMSG_CLOEXEC: c_int = 0x4000_0000;
 
 /// `_IOW(229, 1, struct fuse_backing_map)` and `_IOW(229, 2, uint32_t)`.
 const BACKING_OPEN: c_ulong = 0x4010_e501;
@@ -69,6 +75,9 @@ struct Control {
     padding: c_int,
 }
 
+/// The length of a control message without its padding.
+const CONTROL: usize = size_of::<Control>() - size_of::<c_int>();
+
 #[repr(C)]
 struct BackingMap {
     descriptor: i32,
@@ -86,6 +95,7 @@ extern "C" {
     fn memfd_create(name: *const c_char, flags: c_uint) -> c_int;
     fn poll(descriptors: *mut Polled, count: c_ulong, timeout: c_int) -> c_int;
     fn recvmsg(descriptor: c_int, message: *mut MessageHeader, flags: c_int) -> isize;
+    fn sendmsg(descriptor: c_int, message: *const MessageHeader, flags: c_int) -> isize;
     fn fcntl(descriptor: c_int, command: c_int, argument: c_int) -> c_int;
     fn getuid() -> c_uint;
     fn geteuid() -> c_uint;
@@ -115,9 +125,18 @@ pub fn user() -> (u32, u32, bool) {
 
 /// Mounts a file system of FUSE on the folder. `data` names the device's descriptor.
 pub fn mount_fuse(folder: &str, data: &str) -> Result<()> {
-    let (source, target, kind, data) = (text("litefs")?, text(folder)?, text("fuse.litefs")?, text(data)?);
+    mount_as("fuse.litefs", folder, MS_NOSUID | MS_NODEV, data)
+}
+
+/// Mounts a small empty file system on the folder, to which nobody may write.
+pub fn mount_empty(folder: &str) -> Result<()> {
+    mount_as("tmpfs", folder, MS_RDONLY | MS_NOSUID | MS_NODEV | MS_NOEXEC, "size=4k,mode=0555")
+}
+
+fn mount_as(kind: &str, folder: &str, flags: c_ulong, data: &str) -> Result<()> {
+    let (source, target, kind, data) = (text("litefs")?, text(folder)?, text(kind)?, text(data)?);
     // SAFETY: the four texts end with a zero byte and live over the call.
-    checked(unsafe { mount(source.as_ptr(), target.as_ptr(), kind.as_ptr(), MS_NOSUID | MS_NODEV, data.as_ptr().cast()) })?;
+    checked(unsafe { mount(source.as_ptr(), target.as_ptr(), kind.as_ptr(), flags, data.as_ptr().cast()) })?;
     Ok(())
 }
 
@@ -178,27 +197,55 @@ pub fn keep_on_exec(of: &impl AsRawFd) -> Result<RawFd> {
     Ok(descriptor)
 }
 
-/// Receives one descriptor that another process sent over the socket.
+/// Receives one descriptor that `fusermount3` sent over the socket.
 pub fn receive_file(from: &UnixStream) -> Result<File> {
-    let mut byte = 0u8;
-    let mut vector = Vector { base: ptr::from_mut(&mut byte).cast(), len: 1 };
+    receive(from, &mut [0])?.1.ok_or_else(|| Error::other("fusermount3 sent no descriptor"))
+}
+
+/// Receives bytes, and the descriptor that was sent with them. The other's end is 0 bytes.
+pub fn receive(from: &UnixStream, bytes: &mut [u8]) -> Result<(usize, Option<File>)> {
+    let mut vector = Vector { base: bytes.as_mut_ptr().cast(), len: bytes.len() };
     let mut control = Control { len: 0, level: 0, kind: 0, descriptor: -1, padding: 0 };
-    let mut message = MessageHeader {
-        name: ptr::null_mut(),
-        name_len: 0,
-        vectors: &mut vector,
-        vector_count: 1,
-        control: ptr::from_mut(&mut control).cast(),
-        control_len: size_of::<Control>(),
-        flags: 0,
-    };
+    let mut message = message_of(&mut vector, &mut control, size_of::<Control>());
     // SAFETY: every pointer of the message is to a value above, of the size that stands beside it.
-    let got = unsafe { recvmsg(from.as_raw_fd(), &mut message, 0) };
-    if got < 1 || control.level != SOL_SOCKET || control.kind != SCM_RIGHTS || control.descriptor < 0 {
-        return Err(Error::other("fusermount3 sent no descriptor"));
+    let got = unsafe { recvmsg(from.as_raw_fd(), &mut message, MSG_CMSG_CLOEXEC) };
+    let got = usize::try_from(got).map_err(|_| Error::last_os_error())?;
+    if control.level != SOL_SOCKET || control.kind != SCM_RIGHTS || control.descriptor < 0 {
+        return Ok((got, None));
     }
     // SAFETY: the kernel has just made this descriptor for this process.
-    Ok(unsafe { File::from_raw_fd(control.descriptor) })
+    Ok((got, Some(unsafe { File::from_raw_fd(control.descriptor) })))
+}
+
+/// Sends bytes, and a descriptor with them, where the other takes them at once.
+pub fn send(to: &UnixStream, bytes: &[u8], file: Option<&File>) -> Result<()> {
+    let mut vector = Vector { base: bytes.as_ptr().cast_mut().cast(), len: bytes.len() };
+    let descriptor = file.map_or(-1, AsRawFd::as_raw_fd);
+    let mut control = Control { len: CONTROL, level: SOL_SOCKET, kind: SCM_RIGHTS, descriptor, padding: 0 };
+    let message = message_of(&mut vector, &mut control, file.map_or(0, |_| size_of::<Control>()));
+    // SAFETY: every pointer of the message is to a value above, of the size that stands beside it; the bytes are only read.
+    match unsafe { sendmsg(to.as_raw_fd(), &message, MSG_DONTWAIT | MSG_NOSIGNAL) } {
+        sent if sent < 0 => Err(Error::last_os_error()),
+        _ => Ok(()),
+    }
+}
+
+fn message_of(vectors: &mut Vector, control: &mut Control, control_len: usize) -> MessageHeader {
+    MessageHeader {
+        name: ptr::null_mut(),
+        name_len: 0,
+        vectors,
+        vector_count: 1,
+        control: ptr::from_mut(control).cast(),
+        control_len,
+        flags: 0,
+    }
+}
+
+/// A descriptor that this process was started with. Each number is asked for once.
+pub fn inherited(number: RawFd) -> File {
+    // SAFETY: who started this process has left the descriptor to it alone.
+    unsafe { File::from_raw_fd(number) }
 }
 
 fn ending_signals() -> SignalSet {

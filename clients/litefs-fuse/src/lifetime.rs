@@ -1,34 +1,36 @@
 //! When the program ends: at the kernel's unmount, and at a signal or the end of standard input, after it has unmounted.
+//! Standard input ends where the node does, which comes back, so then the folder stays covered.
 
+use crate::cover::Cover;
 use crate::foreign::{hold_signals, wait_for_signal};
-use crate::mounting::{clear_dead, unmount_in_time};
+use crate::mounting::{unmount_in_time, Mounted};
+use crate::mounts::Place;
 use std::io::{copy, sink, stdin};
 use std::process::exit;
 use std::thread;
 
 /// Waits for the reasons to end, each in a thread of its own. Called before any other thread is started.
-pub fn watch_for_end(folder: &str, until_stdin_ends: bool) {
+pub fn watch_for_end(mounted: &Mounted, until_stdin_ends: bool) {
     hold_signals();
-    end_after(folder, wait_for_signal);
+    let (place, cover) = (mounted.place.clone(), mounted.cover.clone());
+    thread::spawn(move || {
+        wait_for_signal();
+        end(&place, &cover);
+    });
     if until_stdin_ends {
-        end_after(folder, wait_for_end_of_stdin);
+        let (place, cover) = (mounted.place.clone(), mounted.cover.clone());
+        thread::spawn(move || {
+            wait_for_end_of_stdin();
+            cover.keep();
+            end(&place, &cover);
+        });
     }
 }
 
-/// The other run of this program: it waits for the end of the first, and clears its mount.
-pub fn clear_after_end(folder: &str) {
-    hold_signals();
-    wait_for_end_of_stdin();
-    let _ = clear_dead(folder);
-}
-
-fn end_after(folder: &str, wait: fn()) {
-    let folder = folder.to_string();
-    thread::spawn(move || {
-        wait();
-        unmount_in_time(&folder);
-        exit(0);
-    });
+fn end(place: &Place, cover: &Cover) {
+    unmount_in_time(place);
+    cover.take_away();
+    exit(0);
 }
 
 fn wait_for_end_of_stdin() {

@@ -2,9 +2,11 @@
 
 mod bytes;
 mod connection;
+mod cover;
 mod device;
 mod driver;
 mod foreign;
+mod guard;
 mod lifetime;
 mod machine;
 mod memory;
@@ -16,17 +18,15 @@ mod wire;
 
 use device::Device;
 use driver::Driver;
+use guard::Guard;
 use machine::{Machine, Settings};
 use options::{Options, Sharing, USAGE};
 use std::process::ExitCode;
 
 fn main() -> ExitCode {
     let arguments: Vec<String> = std::env::args().skip(1).collect();
-    if let [watch, folder] = arguments.as_slice() {
-        if watch == mounting::WATCH {
-            lifetime::clear_after_end(folder);
-            return ExitCode::SUCCESS;
-        }
+    if arguments.first().is_some_and(|first| first == guard::GUARD) {
+        return ended(guard::stand_in(&arguments[1..]));
     }
     let options = match Options::read(&arguments) {
         Ok(options) => options,
@@ -35,7 +35,11 @@ fn main() -> ExitCode {
             return ExitCode::from(2);
         }
     };
-    match serve(&options) {
+    ended(serve(&options))
+}
+
+fn ended(result: std::io::Result<()>) -> ExitCode {
+    match result {
         Ok(()) => ExitCode::SUCCESS,
         Err(error) => {
             eprintln!("litefs-fuse: {error}");
@@ -47,10 +51,17 @@ fn main() -> ExitCode {
 /// Mounts, and serves until the folder is unmounted.
 fn serve(options: &Options) -> std::io::Result<()> {
     let mounted = mounting::mount(options)?;
-    lifetime::watch_for_end(&mounted.folder, options.until_stdin_ends);
+    let guard = Guard::start(&mounted, options.auto_unmount);
+    lifetime::watch_for_end(&mounted, options.until_stdin_ends);
     let device = Device::new(mounted.device.try_clone()?);
-    let machine = Machine::new(settings(options));
-    Driver::new(&options.socket, machine, device).run()
+    let mut driver = Driver::new(&options.socket, Machine::new(settings(options)), device);
+    match guard {
+        Ok(guard) => driver.tell_memory(guard),
+        Err(error) => eprintln!("litefs-fuse: no second process: {error}"),
+    }
+    driver.run()?;
+    mounted.cover.take_away();
+    Ok(())
 }
 
 fn settings(options: &Options) -> Settings {

@@ -1,14 +1,15 @@
 //! The folder becomes a mount, and is none again.
 
+use crate::cover::Cover;
 use crate::foreign::{keep_on_exec, mount_fuse, never_wait, receive_file, unmount, user};
-use crate::mounts::is_of_another;
+use crate::mounts::{is_of_another, Place};
 use crate::options::Options;
 use std::fs::{canonicalize, create_dir_all, metadata, File, OpenOptions};
-use std::io::{Error, Result};
+use std::io::{Error, ErrorKind, Result};
 use std::os::fd::AsRawFd;
 use std::os::unix::net::UnixStream;
 use std::path::{Path, PathBuf};
-use std::process::{Child, Command, Stdio};
+use std::process::{Command, Stdio};
 use std::thread::sleep;
 use std::time::{Duration, Instant};
 
@@ -23,21 +24,17 @@ const PATIENCE: Duration = Duration::from_secs(2);
 /// How long a folder that another run of this program has mounted is waited for: that one may be about to unmount it.
 const OTHERS_PATIENCE: Duration = Duration::from_secs(5);
 
-/// The argument by which this program watches over another run of itself.
-pub const WATCH: &str = "--unmount-when-stdin-ends";
-
 /// A mounted folder, and what must live as long as it does.
 pub struct Mounted {
     pub device: File,
-    pub folder: String,
-    _watcher: Option<Watcher>,
+    pub place: Place,
+    pub cover: Cover,
+    /// `fusermount3` unmounts when it sees its end of the socket close
+    _helper: Option<UnixStream>,
 }
 
-/// Who unmounts when this program has ended: each sees its end of a pipe or socket close.
-enum Watcher {
-    Helper { _socket: UnixStream },
-    Child { _child: Child },
-}
+/// The device of a folder that was mounted, and the socket of its helper where that stays.
+type Device = (File, Option<UnixStream>);
 
 /// Mounts the folder, after a dead mount on it was cleared.
 pub fn mount(options: &Options) -> Result<Mounted> {
@@ -45,12 +42,15 @@ pub fn mount(options: &Options) -> Result<Mounted> {
     outside(&options.socket, &folder)?;
     let folder = folder.to_string_lossy().into_owned();
     wait_for_another(&folder)?;
+    let cover = Cover::over(&folder)?;
     let mounted = match user() {
-        (_, _, true) => by_system(folder, options)?,
-        _ => by_helper(folder, options)?,
+        (_, _, true) => by_system(&folder, options),
+        _ => by_helper(&folder, options),
     };
-    never_wait(&mounted.device)?;
-    Ok(mounted)
+    let (device, helper) = mounted.inspect_err(|_| cover.take_away())?;
+    cover.close();
+    never_wait(&device)?;
+    Ok(Mounted { device, place: Place::at(&folder), cover, _helper: helper })
 }
 
 /// The folder's path without links.
@@ -91,34 +91,38 @@ fn outside(socket: &str, folder: &Path) -> Result<()> {
     }
 }
 
-/// Unmounts the folder; where it stays in use, lazily after two seconds.
-pub fn unmount_in_time(folder: &str) {
+/// Unmounts what this program has mounted; where it stays in use, lazily after two seconds.
+pub fn unmount_in_time(place: &Place) {
     let begin = Instant::now();
-    while let Err(error) = unmount_by(folder, false) {
-        if begin.elapsed() >= PATIENCE || error.kind() != std::io::ErrorKind::ResourceBusy {
-            let _ = unmount_by(folder, true);
-            return;
+    while place.stands() {
+        match unmount_by(&place.folder, false) {
+            Err(error) if begin.elapsed() < PATIENCE && error.kind() == ErrorKind::ResourceBusy => sleep(Duration::from_millis(20)),
+            Err(_) => return drop(unmount_lazily(&place.folder)),
+            Ok(()) => return,
         }
-        sleep(Duration::from_millis(20));
     }
+}
+
+/// Unmounts the folder, and lets its open files go on.
+pub fn unmount_lazily(folder: &str) -> Result<()> {
+    unmount_by(folder, true)
 }
 
 /// Unmounts the folder where it is a mount whose program is gone.
 pub fn clear_dead(folder: &str) -> Result<()> {
     match metadata(folder) {
-        Err(error) if error.raw_os_error() == Some(ENOTCONN) => unmount_by(folder, true),
+        Err(error) if error.raw_os_error() == Some(ENOTCONN) => unmount_lazily(folder),
         _ => Ok(()),
     }
 }
 
-fn by_system(folder: String, options: &Options) -> Result<Mounted> {
+fn by_system(folder: &str, options: &Options) -> Result<Device> {
     let device = OpenOptions::new().read(true).write(true).open(DEVICE).map_err(|error| of_path(DEVICE, error))?;
     let (uid, gid, _) = user();
     let descriptor = device.as_raw_fd();
     let others = for_others(options);
-    mount_fuse(&folder, &format!("fd={descriptor},rootmode=40000,user_id={uid},group_id={gid}{others}"))?;
-    let watcher = if options.auto_unmount { Some(Watcher::Child { _child: watch(&folder)? }) } else { None };
-    Ok(Mounted { device, folder, _watcher: watcher })
+    mount_fuse(folder, &format!("fd={descriptor},rootmode=40000,user_id={uid},group_id={gid}{others}"))?;
+    Ok((device, None))
 }
 
 /// The kernel asks the files' modes where others may come in.
@@ -131,13 +135,13 @@ fn for_others(options: &Options) -> &'static str {
 }
 
 /// `fusermount3` opens the device, mounts, and sends the descriptor over a socket.
-fn by_helper(folder: String, options: &Options) -> Result<Mounted> {
+fn by_helper(folder: &str, options: &Options) -> Result<Device> {
     let (ours, theirs) = UnixStream::pair()?;
     let descriptor = keep_on_exec(&theirs)?;
     let unmount = if options.auto_unmount { ",auto_unmount" } else { "" };
     let list = format!("fsname=litefs,subtype=litefs{}{unmount}", for_others(options));
     let mut child = Command::new("fusermount3")
-        .args(["-o", &list, "--", &folder])
+        .args(["-o", &list, "--", folder])
         .env("_FUSE_COMMFD", descriptor.to_string())
         .stdin(Stdio::null())
         .spawn()
@@ -145,15 +149,10 @@ fn by_helper(folder: String, options: &Options) -> Result<Mounted> {
     drop(theirs);
     let device = receive_file(&ours)?;
     if options.auto_unmount {
-        return Ok(Mounted { device, folder, _watcher: Some(Watcher::Helper { _socket: ours }) });
+        return Ok((device, Some(ours)));
     }
     child.wait()?;
-    Ok(Mounted { device, folder, _watcher: None })
-}
-
-/// A second run of this program, which unmounts the folder when this one has ended.
-fn watch(folder: &str) -> Result<Child> {
-    Command::new(std::env::current_exe()?).args([WATCH, folder]).stdin(Stdio::piped()).spawn()
+    Ok((device, None))
 }
 
 fn unmount_by(folder: &str, lazily: bool) -> Result<()> {
@@ -164,6 +163,6 @@ fn unmount_by(folder: &str, lazily: bool) -> Result<()> {
     let status = Command::new("fusermount3").args([how, "--", folder]).stderr(Stdio::null()).status()?;
     match status.success() {
         true => Ok(()),
-        false => Err(std::io::ErrorKind::ResourceBusy.into()),
+        false => Err(ErrorKind::ResourceBusy.into()),
     }
 }

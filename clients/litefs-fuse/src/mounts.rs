@@ -2,26 +2,56 @@
 
 use std::fs::read_to_string;
 
+/// A mount of this program: the folder, and the kernel's number of what is mounted there.
+#[derive(Clone)]
+pub struct Place {
+    pub folder: String,
+    pub number: String,
+}
+
+impl Place {
+    /// What is mounted at the folder.
+    pub fn at(folder: &str) -> Place {
+        let number = last_at(folder).and_then(|line| line.split(' ').nth(2).map(str::to_string));
+        Place { folder: folder.to_string(), number: number.unwrap_or_default() }
+    }
+
+    /// Whether it still is what the folder shows.
+    pub fn stands(&self) -> bool {
+        Place::at(&self.folder).number == self.number
+    }
+}
+
 /// Whether the folder is a mount of a run of this program that is not gone. Where the kernel doesn't tell it is none.
 pub fn is_of_another(folder: &str) -> bool {
-    match read_to_string("/proc/self/mountinfo") {
-        Ok(mounts) => is_ours_in(&mounts, folder),
-        Err(_) => false,
-    }
+    last_at(folder).is_some_and(|line| is_ours(&line))
+}
+
+/// Whether the folder is covered by this program's small empty file system, and by nothing else.
+pub fn is_covered(folder: &str) -> bool {
+    last_at(folder).is_some_and(|line| is_cover(&line))
+}
+
+fn last_at(folder: &str) -> Option<String> {
+    last_in(&read_to_string("/proc/self/mountinfo").ok()?, folder).map(str::to_string)
 }
 
 /// Of several mounts on a folder the last one counts.
-fn is_ours_in(mounts: &str, folder: &str) -> bool {
-    let last = mounts.lines().filter(|line| line.split(' ').nth(4).map(plain).as_deref() == Some(folder)).next_back();
-    last.is_some_and(is_ours)
+fn last_in<'a>(mounts: &'a str, folder: &str) -> Option<&'a str> {
+    mounts.lines().filter(|line| line.split(' ').nth(4).map(plain).as_deref() == Some(folder)).next_back()
 }
 
-/// The kind and the source stand behind a dash.
 fn is_ours(line: &str) -> bool {
-    match line.split_once(" - ") {
-        Some((_, rest)) => rest.starts_with("fuse.litefs litefs "),
-        None => false,
-    }
+    has_kind(line, "fuse.litefs litefs ")
+}
+
+fn is_cover(line: &str) -> bool {
+    has_kind(line, "tmpfs litefs ")
+}
+
+/// The kind and the source stand after a dash.
+fn has_kind(line: &str, kind_and_source: &str) -> bool {
+    line.split_once(" - ").is_some_and(|(_, rest)| rest.starts_with(kind_and_source))
 }
 
 /// A path without the kernel's escapes: a backslash and three octal digits for a blank, a tab, a newline and a backslash.
@@ -44,13 +74,25 @@ mod tests {
 66 65 0:57 / /mnt/under rw - tmpfs litefs rw
 ";
 
+    fn last_is(folder: &str, kind: fn(&str) -> bool) -> bool {
+        last_in(MOUNTS, folder).is_some_and(kind)
+    }
+
     #[test]
     fn mounts_of_this_program_are_known() {
         for folder in ["/mnt/a b", "/mnt/disk"] {
-            assert!(is_ours_in(MOUNTS, folder), "{folder}");
+            assert!(last_is(folder, is_ours), "{folder}");
         }
         for folder in ["/", "/mnt", "/mnt/a", "/mnt/other", "/mnt/under", "/mnt/none"] {
-            assert!(!is_ours_in(MOUNTS, folder), "{folder}");
+            assert!(!last_is(folder, is_ours), "{folder}");
+        }
+    }
+
+    #[test]
+    fn the_small_file_system_below_is_known() {
+        assert!(last_is("/mnt/under", is_cover));
+        for folder in ["/mnt/disk", "/mnt/a b", "/mnt/other", "/mnt/none"] {
+            assert!(!last_is(folder, is_cover), "{folder}");
         }
     }
 

@@ -12,6 +12,7 @@ use std::thread;
 const INVALIDATE: u32 = 2;
 const STORE: u32 = 4;
 const RETRIEVE: u32 = 5;
+const RESEND: u32 = 7;
 
 /// One thing to notify.
 pub enum Note {
@@ -93,7 +94,8 @@ fn forget(device: &File, node: u64) -> Result<()> {
     notify(device, INVALIDATE, &body, &[])
 }
 
-fn store(device: &File, node: u64, at: u64, bytes: &[u8]) -> Result<()> {
+/// Puts bytes into the kernel's pages of a file. It waits for a page that waits for a READ.
+pub fn store(device: &File, node: u64, at: u64, bytes: &[u8]) -> Result<()> {
     let mut body = [0; 24];
     put_u64(&mut body, 0, node);
     put_u64(&mut body, 8, at);
@@ -107,6 +109,11 @@ pub fn retrieve(device: &File, node: u64, size: u32) -> Result<()> {
     put_u64(&mut body, 8, node);
     put_u32(&mut body, 24, size);
     notify(device, RETRIEVE, &body, &[])
+}
+
+/// Asks for every request anew that was read and not answered. Linux 6.9 and later knows it.
+pub fn resend(device: &File) -> Result<()> {
+    notify(device, RESEND, &[], &[])
 }
 
 fn notify(mut device: &File, code: u32, body: &[u8], data: &[u8]) -> Result<()> {

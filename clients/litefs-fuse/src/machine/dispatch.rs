@@ -57,7 +57,7 @@ impl Machine {
     /// A request on an open file. The handle decides which file it is.
     fn on_handle(&mut self, request: &Request) {
         let Some(handle) = self.handles.get(request.handle()) else {
-            return self.refuse(request.unique, errno::EBADF);
+            return self.on_unknown_handle(request);
         };
         if handle.epoch != self.link.epoch {
             return self.on_lost_handle(request, handle.kind);

@@ -40,6 +40,12 @@ impl Files {
         (2..9).filter_map(Kind::of).for_each(|kind| self.renew(kind));
     }
 
+    /// Every file gets a generation that none has had in another process.
+    pub fn renew_after_another(&mut self) {
+        self.latest |= 1 << 31;
+        self.renew_all();
+    }
+
     pub fn generation(&self, kind: Kind) -> u32 {
         self.generations[kind as usize]
     }

@@ -67,6 +67,8 @@ pub struct Settings {
 /// The machine.
 pub struct Machine {
     settings: Settings,
+    /// whether another process, which has ended, opened what the kernel has open
+    after_another: bool,
     now: Time,
     link: Link,
     files: Files,
@@ -88,6 +90,7 @@ impl Machine {
         Machine {
             files: Files::new(settings.name.clone()),
             settings,
+            after_another: false,
             now: (0, 0),
             link: Link::default(),
             handles: Handles::default(),
@@ -106,6 +109,14 @@ impl Machine {
     /// From now on this tells the process of a thread.
     pub fn see_processes(&mut self, process_of: Box<dyn Fn(u32) -> Option<u32>>) {
         self.process_of = process_of;
+    }
+
+    /// A machine in place of one that is gone: it knows none of its handles, and never gets a link.
+    pub fn after_another() -> Machine {
+        let mut machine = Machine::new(Settings::default());
+        machine.after_another = true;
+        machine.files.renew_after_another();
+        machine
     }
 
     /// Takes what has come together.

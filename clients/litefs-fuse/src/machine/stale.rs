@@ -23,6 +23,14 @@ impl Machine {
         }
     }
 
+    /// A handle of another process, which has ended, is one of a lost link. The number of the file tells its kind.
+    pub(super) fn on_unknown_handle(&mut self, request: &Request) {
+        match Kind::of(request.node & 255) {
+            Some(kind) if self.after_another => self.on_lost_handle(request, kind),
+            _ => self.refuse(request.unique, errno::EBADF),
+        }
+    }
+
     /// A request by a handle of a lost link.
     pub(super) fn on_lost_handle(&mut self, request: &Request, kind: Kind) {
         let unlock = u32_at(request.body, 32) == lock::UNLOCK;

@@ -7,7 +7,10 @@ pub use noted::Noted;
 pub use passed::Passed;
 
 use crate::machine::output::Piece;
+use crate::notifier::store;
+use std::fs::File;
 use std::io::Result;
+use std::os::unix::fs::FileExt;
 
 /// Both copies of the index's header.
 const CLEARED: usize = 96;
@@ -16,6 +19,9 @@ const CLEARED: usize = 96;
 pub trait Memory {
     /// New pages, none yet, for the file of this number.
     fn renew(&mut self, node: u64) -> Result<()>;
+
+    /// The file in memory that has the pages, where one has them.
+    fn pages(&self) -> Option<&File>;
 
     /// The size in bytes.
     fn size(&self) -> u64;
@@ -50,4 +56,16 @@ pub trait Memory {
 
     /// The device's answer; gives the header.
     fn retrieved(&mut self, bytes: &[u8]) -> Vec<u8>;
+}
+
+/// Makes the header zeros of pages that lie in a file, after the process that made it has ended.
+pub fn clear_passed(pages: &File) {
+    if pages.metadata().is_ok_and(|data| data.len() >= CLEARED as u64) {
+        let _ = pages.write_all_at(&[0; CLEARED], 0);
+    }
+}
+
+/// The same of pages in the kernel's cache.
+pub fn clear_noted(device: &File, node: u64) {
+    let _ = store(device, node, 0, &[0; CLEARED]);
 }

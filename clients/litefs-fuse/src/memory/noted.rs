@@ -35,6 +35,10 @@ impl Memory for Noted {
         Ok(())
     }
 
+    fn pages(&self) -> Option<&File> {
+        None
+    }
+
     fn size(&self) -> u64 {
         self.copy.len() as u64
     }

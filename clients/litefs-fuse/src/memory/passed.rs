@@ -39,6 +39,10 @@ impl Memory for Passed {
         Ok(())
     }
 
+    fn pages(&self) -> Option<&File> {
+        self.file.as_ref()
+    }
+
     fn size(&self) -> u64 {
         self.file().and_then(|file| file.metadata()).map_or(0, |data| data.len())
     }

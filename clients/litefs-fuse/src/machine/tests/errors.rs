@@ -4,7 +4,7 @@ use super::trial::*;
 use crate::bytes::{u32_at, u64_at};
 use crate::machine::link::Way;
 use crate::machine::output::Action;
-use crate::machine::Settings;
+use crate::machine::{Machine, Settings};
 use crate::wire::opcode;
 
 #[test]
@@ -134,4 +134,34 @@ fn pages_of_an_older_shared_memory_read_as_zeros_and_are_taken_back() {
     assert_eq!(u32_at(&trial.reply().1.unwrap(), 0), 3);
     trial.ask(opcode::GETATTR, number, &[0; 16]);
     assert_eq!(trial.reply().1.map(|body| body.len()), Ok(104));
+}
+
+/// The machine of the process that goes on where the one that knew the handles has ended.
+#[test]
+fn after_another_process_every_handle_is_one_of_a_lost_link() {
+    let mut trial = Trial::new(Settings::default());
+    trial.machine = Machine::after_another();
+    let mut before = Trial::linked(Settings::default());
+    let (database, handle) = before.opened(b"app", DATABASE, 5);
+    let shared = database & !255 | SHARED;
+    let page = vec![0; 64];
+    for (opcode, number, body, wanted) in [
+        (opcode::READ, database, at(handle, 0, 4), Err(116)),
+        (opcode::WRITE, database, at(handle, 0, 0), Err(116)),
+        (opcode::GETATTR, database, vec![0; 16], Err(116)),
+        (opcode::SETLK, database, lock(handle, 1, 2, 3, 0), Err(116)),
+        (opcode::SETLKW, database, lock(handle, 1, 2, 3, 1), Err(116)),
+        (opcode::SETLK, database, lock(handle, 1, 2, 3, 2), Ok(vec![])),
+        (opcode::SETLK, shared, lock(handle, 1, 120, 120, 1), Ok(vec![])),
+        (opcode::SETLKW, shared, lock(handle, 1, 120, 120, 1), Ok(vec![])),
+        (opcode::READ, shared, at(handle, 0, 64), Ok(page)),
+        (opcode::FLUSH, database, closing(handle, 1), Ok(vec![])),
+        (opcode::RELEASE, shared, closing(handle, 1), Ok(vec![])),
+        (opcode::LOOKUP, 1, b"app\0".to_vec(), Err(107)),
+        (opcode::READ, 255, at(handle, 0, 4), Err(9)),
+    ] {
+        trial.ask(opcode, number, &body);
+        assert_eq!((trial.reply().1, trial.sent()), (wanted, vec![]), "opcode {opcode} of {number}");
+    }
+    assert!(!trial.machine.is_waiting());
 }
