@@ -12,6 +12,7 @@ import fcntl
 import random
 import sqlite3
 import subprocess
+import sys
 import threading
 import time
 
@@ -20,7 +21,7 @@ from support import (Client, Cluster, Node, commits, configuration, connect, cou
 from support.cluster import standing_still
 from support.losing import Losing
 from support.mount import Mount, why_no_mount
-from support.outcomes import Skipped
+from support.outcomes import Skipped, Wrong
 from support.permit import HALT, permitted
 
 EITHER = ('delete', 'wal')
@@ -40,6 +41,42 @@ while True:
             said(f'{{key}}\\n')
             key += 1
 '''
+LOCKING = '''
+import fcntl, subprocess, sys, time
+with open(sys.argv[1] + '-lock', 'r+') as lock:
+    began = time.monotonic()
+    fcntl.lockf(lock, fcntl.LOCK_EX, 1, 72)
+    print(time.monotonic() - began, flush=True)
+    sys.exit(subprocess.call(sys.argv[2:]))
+'''
+READING = '''
+while True:
+    began = time.monotonic()
+    at = connect()
+    at.execute('select count(*), sum(length(b)) from t').fetchall()
+    at.close()
+    said(f'{time.monotonic() - began}\\n')
+    time.sleep(0.003)
+'''
+CALLING = '''
+def took(call, *words):
+    began = time.monotonic()
+    given = call(*words)
+    said(f'{time.monotonic() - began}\\n')
+    return given
+while True:
+    file = took(os.open, path + '-pos', os.O_RDONLY)
+    took(os.read, file, 99)
+    took(os.close, file)
+    time.sleep(0.003)
+'''
+ADDING = '''
+while True:
+    c.execute("insert into t(b) values(hex(randomblob(500)))")
+    said('a row\\n')
+    time.sleep(0.005)
+'''
+LONGEST = 2
 MIGRATION = ('alter table t add column d default 7', 'create index by_b on t(b)', 'create table u as select a, d from t',
              ('begin', "update t set b = 'new' where a < 5", 'delete from t where a = 9', 'commit'), 'drop table u', 'vacuum')
 
@@ -100,6 +137,86 @@ def mounted(mode):
         for node in replica, third:
             primary.level(node)
         commits(primary, writer, 1, "insert into t(a) values(100)")
+
+
+class Heard:
+    """What a process says, line by line. Ended with its block."""
+
+    def __init__(self, process):
+        self.process, self.lines = process, []
+        self.thread = threading.Thread(target=lambda: self.lines.extend(iter(process.stdout.readline, '')), daemon=True)
+
+    def __enter__(self):
+        self.thread.start()
+        until(lambda: self.lines or self.process.poll() is not None, 'its first line')
+        return self
+
+    def __exit__(self, *_):
+        self.process.kill()
+        with contextlib.suppress(subprocess.TimeoutExpired):
+            self.process.wait(LONGEST)
+
+    def longest(self):
+        """The longest time that it told, or since when it tells none."""
+        before = len(self.lines)
+        began = time.monotonic()
+        until(lambda: len(self.lines) > before + 1 or time.monotonic() - began > 2 * LONGEST, 'it goes on')
+        holds(self.process.poll() is None, f'it ended: {self.lines[-5:]}')
+        return max(*map(float, self.lines), time.monotonic() - began if len(self.lines) < before + 2 else 0)
+
+
+def waiting_for_halt(mount, *words):
+    """`flock_halt` of CLIENTS.md at the mount: takes the lock, tells how long it waited, and runs a program then."""
+    return subprocess.Popen([sys.executable, '-c', LOCKING, mount.path, *words], stdout=subprocess.PIPE, stderr=subprocess.STDOUT, text=True)
+
+
+def killed_in_time(process):
+    """Kills a process, which ends, so it hangs in no call."""
+    process.kill()
+    try:
+        process.wait(LONGEST)
+    except subprocess.TimeoutExpired:
+        raise Wrong('a process that waits for the lock can not be killed')
+
+
+def writes_under_halt(mount, number):
+    """A row by the shell, under a lock that is waited for. How long it was."""
+    process = waiting_for_halt(mount, 'sqlite3', '-bail', '-cmd', '.timeout 10000', mount.path, f"insert into t(b) values('halted {number}')")
+    try:
+        said = process.communicate(timeout=20)[0]
+    except subprocess.TimeoutExpired:
+        killed_in_time(process)
+        raise Wrong('no lock and no row in 20 s')
+    same(process.returncode, 0, f'the end of it: {said}')
+    return float(said.split()[0])
+
+
+def beside_others(mode):
+    """A lock on HALT by hand at the mount, again and again, beside a reader there and a writer at the primary: no call there waits long."""
+    if why_no_mount():
+        raise Skipped(why_no_mount())
+    with level_pair(mode) as (primary, replica, writer), Mount(replica) as mount, \
+            Heard(mount.client(READING)) as reads, Heard(Client(primary.socket, ADDING).process):
+        waits = [writes_under_halt(mount, turn) for turn in range(length(5, 50))]
+        same((max(waits) < LONGEST, reads.longest() < LONGEST), (True, True), f'waits {sorted(waits)[-3:]}, reads {reads.longest()}')
+        same(writer.execute("select count(*) from t where b like 'halted%'").fetchall(), [(len(waits),)], 'their rows at the primary')
+
+
+def silent(mode):
+    """Who waits for HALT at the mount of a replica whose primary says nothing holds up no call there, can be killed, and gets it later."""
+    if why_no_mount():
+        raise Skipped(why_no_mount())
+    with tallied(mode) as (primary, replica), Mount(replica) as mount, Heard(mount.client(CALLING)) as calls:
+        with standing_still(primary):
+            process = waiting_for_halt(mount, 'true')
+            time.sleep(length(5, 30))
+            longest = calls.longest()
+            killed_in_time(process)
+            other = waiting_for_halt(mount, 'true')
+            time.sleep(1)
+        same(longest < LONGEST + 1, True, f'the longest call, which may be two messages: {longest}')
+        same(other.wait(20), 0, 'the next one gets it')
+        other.stdout.close()
 
 
 def pruned(mode):
@@ -304,7 +421,7 @@ def told(node, key):
             return False
 
 
-run({**in_each_mode(EITHER, migration=migration, mounted=mounted, pruned=pruned, rollback=rollback, turns=turns, wanted_by_two=wanted_by_two, lost=lost),
+run({**in_each_mode(EITHER, migration=migration, mounted=mounted, beside_others=beside_others, silent=silent, pruned=pruned, rollback=rollback, turns=turns, wanted_by_two=wanted_by_two, lost=lost),
      **in_each_mode(length(('wal',), EITHER), killed_client=killed('client'), killed_replica=killed('replica'), followed=followed),
      **in_each_mode(length(('delete',), EITHER), killed_primary=killed('primary')),
      **in_each_mode(length((), EITHER), stopped=stopped)}, at_once=2)

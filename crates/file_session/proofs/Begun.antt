@@ -27,18 +27,19 @@ begun tell who worn start entries first phone same so = record {
   rest = ap (λ (es : List FileEntry). standing es phone None) (sym same) ∙ ap (λ (p : Phone). standing start p None) (sym so);
 }
 
-pub writer_is : (name name_now : List ℕ) (node node_now caller caller_now : ℕ) → name_now ≡ name → node_now ≡ node → caller_now ≡ caller → writer name_now node_now caller_now ≡ writer name node caller
-writer_is name name_now node node_now caller caller_now a b c = λ i. writer (a i) (b i) (c i)
+pub writer_is : (name name_now : List ℕ) (node node_now caller caller_now : ℕ) (may may_now : ℕ → Bool) → name_now ≡ name → node_now ≡ node → caller_now ≡ caller → may_now ≡ may
+    → writer name_now node_now caller_now may_now ≡ writer name node caller may
+writer_is name name_now node node_now caller caller_now may may_now a b c d = λ i. writer (a i) (b i) (c i) (d i)
 
-pub permitted_by : (tell : Type 0) (who who_now : Writer) (may : ℕ → Bool) (budget : ℕ) (worn : Type 0) (old new : Stand FileEntry) (start : List FileEntry) (first phone phone_now : Phone) (cut : Bool)
+pub permitted_by : (tell : Type 0) (who who_now : Writer) (budget : ℕ) (worn : Type 0) (old new : Stand FileEntry) (start : List FileEntry) (first phone phone_now : Phone) (cut : Bool)
     (held : Option Held) (told_old told : List FileEntry) (caller : ℕ) (result : SessionEnd) → start ≡ old.place.entries → first ≡ phone → who_now ≡ who → caller ≡ who.caller → told_old ≡ []
-    → IsSession (record { caller = caller; may = may }) budget (with_entries told_old old) (with_entries told new) result
+    → IsSession (record { caller = caller; may = who.may }) budget (with_entries told_old old) (with_entries told new) result
     → IsCarried tell who_now worn cut told (standing start first None) (standing new.place.entries phone_now held)
-    → IsPermitted tell who may budget worn old new phone phone_now result
-permitted_by tell who who_now may budget worn old new start first phone phone_now cut held told_old told caller result same so who_is caller_is none session carried = record {
+    → IsPermitted tell who budget worn old new phone phone_now result
+permitted_by tell who who_now budget worn old new start first phone phone_now cut held told_old told caller result same so who_is caller_is none session carried = record {
   heard = told;
-  session = subst (λ (es : List FileEntry). IsSession (record { caller = who.caller; may = may }) budget (with_entries es old) (with_entries told new) result) none
-      (subst (λ (n : ℕ). IsSession (record { caller = n; may = may }) budget (with_entries told_old old) (with_entries told new) result) caller_is session);
+  session = subst (λ (es : List FileEntry). IsSession (record { caller = who.caller; may = who.may }) budget (with_entries es old) (with_entries told new) result) none
+      (subst (λ (n : ℕ). IsSession (record { caller = n; may = who.may }) budget (with_entries told_old old) (with_entries told new) result) caller_is session);
   cut = cut;
   held = held;
   carried = subst (λ (w : Writer). IsCarried tell w worn cut told (standing old.place.entries phone None) (standing new.place.entries phone_now held)) who_is

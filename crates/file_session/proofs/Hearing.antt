@@ -10,13 +10,14 @@ use Rattle.node_core.specs.declared.ask.Ask.{Ask}
 use Rattle.node_core.specs.declared.ask.Ask.TheVariants as ask
 use Rattle.node_core.specs.declared.answer.Answer.{Answer}
 use Rattle.node_core.specs.declared.answer.Answer.TheVariants as answer
+use Rattle.node_core.specs.Moments.{ask_at}
 use Rattle.file_session.specs.declared.permits.Held.{Held}
 use Rattle.file_session.specs.Asking.{FileEntry}
 use Rattle.file_session.specs.Forwarding.{is_accepted}
-use Rattle.file_session.specs.Halting.{is_taking, AsksAgain, IsTaking, IsWait, MayTake, Reaches, TakesLock, Waits}
+use Rattle.file_session.specs.Halting.{is_taking, IsTaking, Looks, MayTake, TakesLock}
 use Rattle.file_session.specs.Halts.{EAGAIN, EROFS, is_send, taker, wants_permit}
-use Rattle.file_session.specs.Heard.{Hearing, hearing, hears, hears_all, hears_by, listed, silence, with_last}
-use Rattle.file_session.specs.Permits.{AsksPermit, Forwards, GivesBack, IsStrange, Returns, Standing, is_file, is_plain, is_strange}
+use Rattle.file_session.specs.Heard.{Hearing, heard_again, hearing, hears, hears_all, hears_by, listed, silence, with_last}
+use Rattle.file_session.specs.Permits.{Forwards, GivesBack, IsStrange, Returns, Standing, WantsPermit, is_file, is_plain, is_strange}
 use Rattle.file_session.specs.Permits.{Answers, plain, forwarded, permitted, refused_again, not_permitted, not_reached}
 use Rattle.file_session.specs.Permits.{BreaksOff, unheard, untaken, unreturned, unended, unknown}
 use Rattle.file_session.specs.Permits.{IsPart, answered, ended, strange}
@@ -90,7 +91,7 @@ refused_heard caller (ask.File now request) b l some =
     ap (λ (w : Bool). quiet (b ++ listed l) (Some (cond (w && true) (entry caller (ask.File now request) (answer.Refuse EAGAIN)) (entry caller (ask.File now request) (answer.Refuse EROFS))))) some
 refused_heard caller _ b l some = absurd cc
 
-asks_heard : (tell : Type 0) (who : Writer) (asked : Ask) (pass : Option PassLine) (old new : Standing) → AsksPermit tell who asked pass old new
+asks_heard : (tell : Type 0) (who : Writer) (asked : Ask) (pass : Option PassLine) (old new : Standing) → WantsPermit tell who asked pass old new
     → Closes old.entries new.entries (entry who.caller asked (answer.Refuse EAGAIN))
 asks_heard tell who asked pass old new a = record {
   made = entry who.caller asked (answer.Refuse EROFS) ∷ [];
@@ -98,21 +99,14 @@ asks_heard tell who asked pass old new a = record {
   is = λ b l. refused_heard who.caller asked b l a.wanted;
 }
 
-waits_heard : (caller txid : ℕ) (waits : List FileEntry) (b : List FileEntry) (l : Option FileEntry) → AllByRecursion (IsWait caller txid) waits → hears_all (quiet b l) waits ≡ quiet b l
-waits_heard caller txid [] b l each = refl
-waits_heard caller txid (one ∷ more) b l each =
-    ap (λ (asked : Ask). hears_all (hears_by (quiet b l) one asked) more) each.0.asked ∙ waits_heard caller txid more b l each.1
+look_heard : (caller txid : ℕ) (reached : Bool) (old new : List FileEntry) → Looks caller txid reached old new → Heard old new (λ b l. b) (λ b l. l)
+look_heard caller txid reached old new l = record { made = entry caller ask.Where l.here ∷ []; all = l.all; is = λ b l. refl }
 
-short_heard : (caller txid count : ℕ) (old new : List FileEntry) → Waits caller txid count old new → Heard old new (λ b l. b) (λ b l. l)
-short_heard caller txid count old new w = record { made = w.waits; all = w.all; is = λ b l. waits_heard caller txid w.waits b l w.each }
-
-takes_heard : (caller : ℕ) (asked : Ask) (pass : PassLine) (given : Answer) (old new : List FileEntry) → TakesLock caller asked pass given old new
-    → Heard old new (λ b l. b) (λ b l. Some (entry caller asked given))
-takes_heard caller asked pass given old new t =
-    let reaches : Reaches caller pass.pos.txid old t.mid = t.reaches in
-    let there : Heard reaches.mid t.mid (λ b l. b) (λ b l. l) = record { made = entry caller ask.Where reaches.there ∷ []; all = reaches.all; is = λ b l. refl } in
-    let again : Heard t.mid new (λ b l. b) (λ b l. Some (entry caller asked given)) = record { made = _; all = t.again.all; is = λ b l. refl } in
-    heard_on old t.mid new (heard_on old reaches.mid t.mid (short_heard caller pass.pos.txid reaches.count old reaches.mid reaches.waits) there) again
+takes_heard : (may : ℕ → Bool) (caller : ℕ) (asked : Ask) (pass : PassLine) (given : Answer) (old new : List FileEntry) (t : TakesLock may caller asked pass given old new)
+    → Heard old new (λ b l. b) (λ b l. Some (heard_again l (entry caller (ask_at t.again.now asked) given)))
+takes_heard may caller asked pass given old new t =
+    let again : Heard t.mid new (λ b l. b) (λ b l. Some (heard_again l (entry caller (ask_at t.again.now asked) given))) = record { made = _; all = t.again.all; is = λ b l. refl } in
+    heard_on old t.mid new (look_heard caller pass.pos.txid true old t.mid t.reaches) again
 
 -- AN ASK THAT IS ANSWERED is heard with its answer
 answers_heard : (tell : Type 0) (who : Writer) (asked : Ask) (given : Answer) (old new : Standing) (due : Option ℕ) → Answers tell who asked given old new due
@@ -120,17 +114,17 @@ answers_heard : (tell : Type 0) (who : Writer) (asked : Ask) (given : Answer) (o
 answers_heard tell who asked given old new due (plain is all owes) = plain_heard who.caller asked given old.entries new.entries is (ap (λ (s : Standing). s.entries) all)
 answers_heard tell who asked given old new due (forwarded file f owes) = forwards_heard tell who asked given old new file f
 answers_heard tell who asked given old new due (permitted pass mid a done t owes) =
-    heard_on old.entries mid.entries new.entries (asks_heard tell who asked (Some pass) old mid a) (takes_heard who.caller asked pass given mid.entries new.entries t.lock)
+    heard_on old.entries mid.entries new.entries (asks_heard tell who asked (Some pass) old mid a) (takes_heard who.may who.caller asked pass given mid.entries new.entries t.lock)
 answers_heard tell who asked given old new due (refused_again pass mid a done t owes) =
-    heard_on old.entries mid.entries new.entries (asks_heard tell who asked (Some pass) old mid a) (takes_heard who.caller asked pass given mid.entries new.entries t.lock)
+    heard_on old.entries mid.entries new.entries (asks_heard tell who asked (Some pass) old mid a) (takes_heard who.may who.caller asked pass given mid.entries new.entries t.lock)
 answers_heard tell who asked given old new due (not_permitted a is owes) =
     subst (λ (g : Answer). Closes old.entries new.entries (entry who.caller asked g)) (sym is) (asks_heard tell who asked None old new a)
-answers_heard tell who asked given old new due (not_reached pass mid a w is owes) =
+answers_heard tell who asked given old new due (not_reached pass mid a k is owes) =
     subst (λ (g : Answer). Closes old.entries new.entries (entry who.caller asked g)) (sym is)
-    (heard_on old.entries mid.entries new.entries (asks_heard tell who asked (Some pass) old mid a) (short_heard who.caller pass.pos.txid 10000 mid.entries new.entries w.waits))
+    (heard_on old.entries mid.entries new.entries (asks_heard tell who asked (Some pass) old mid a) (look_heard who.caller pass.pos.txid false mid.entries new.entries k.short))
 
-back_heard : (tell : Type 0) (who : Writer) (number : ℕ) (old new : Standing) → Returns tell who number old new → Heard old.entries new.entries (λ b l. b ++ listed l) (λ b l. None)
-back_heard tell who number old new r = record { made = _; all = r.lost; is = λ b l. refl }
+back_heard : (tell : Type 0) (name : List ℕ) (caller number : ℕ) (old new : Standing) → Returns tell name caller number old new → Heard old.entries new.entries (λ b l. b ++ listed l) (λ b l. None)
+back_heard tell name caller number old new r = record { made = _; all = r.lost; is = λ b l. refl }
 
 -- one entry more is heard
 pub record HearsOne (old new : List FileEntry) (one : FileEntry) : Type 0 where
@@ -152,7 +146,7 @@ module _ {f : List FileEntry → Option FileEntry → List FileEntry} {g : List 
     even = λ h even. ap (λ (k : Hearing). (hears_all k heard.made).next) (is_quiet h even) ∙ ap (λ (k : Hearing). k.next) (heard.is h.before h.last);
   }
 
-part_answered : (tell : Type 0) (who : Writer) (asked : Ask) (given : Answer) (old mid new : Standing) (due due_is : Option ℕ) → Answers tell who asked given old mid due → GivesBack tell who due mid new
+part_answered : (tell : Type 0) (who : Writer) (asked : Ask) (given : Answer) (old mid new : Standing) (due due_is : Option ℕ) → Answers tell who asked given old mid due → GivesBack tell who.name who.caller due mid new
     → HearsOne old.entries new.entries (entry who.caller asked given)
 part_answered tell who asked given old mid new None due_is a back =
     hears_one old.entries new.entries (entry who.caller asked given)
@@ -160,10 +154,10 @@ part_answered tell who asked given old mid new None due_is a back =
     (λ b l. refl)
 part_answered tell who asked given old mid new (Some number) due_is a back =
     hears_one old.entries new.entries (entry who.caller asked given)
-    (heard_on old.entries mid.entries new.entries (answers_heard tell who asked given old mid (Some number) a) (back_heard tell who number mid new back))
+    (heard_on old.entries mid.entries new.entries (answers_heard tell who asked given old mid (Some number) a) (back_heard tell who.name who.caller number mid new back))
     (λ b l. append-nil ((b ++ listed l) ++ entry who.caller asked given ∷ []))
 
-part_ended : (tell : Type 0) (who : Writer) (asked : Ask) (given : Answer) (old mid new : Standing) (due : Option ℕ) → asked ≡ ask.EndSession → GivesBack tell who due old mid
+part_ended : (tell : Type 0) (who : Writer) (asked : Ask) (given : Answer) (old mid new : Standing) (due : Option ℕ) → asked ≡ ask.EndSession → GivesBack tell who.name who.caller due old mid
     → new.entries ≡ mid.entries ++ entry who.caller asked given ∷ [] → HearsOne old.entries new.entries (entry who.caller asked given)
 part_ended tell who asked given old mid new due is back all =
     let last : Closes mid.entries new.entries (entry who.caller asked given) = record {
@@ -172,13 +166,13 @@ part_ended tell who asked given old mid new due is back all =
       is = λ b l. ap (λ (q : Ask). hears_by (quiet b l) (entry who.caller asked given) q) is;
     } in
     by_due due back last where
-      by_due : (due : Option ℕ) → GivesBack tell who due old mid → Closes mid.entries new.entries (entry who.caller asked given) → HearsOne old.entries new.entries (entry who.caller asked given)
+      by_due : (due : Option ℕ) → GivesBack tell who.name who.caller due old mid → Closes mid.entries new.entries (entry who.caller asked given) → HearsOne old.entries new.entries (entry who.caller asked given)
       by_due None back last =
           hears_one old.entries new.entries (entry who.caller asked given)
           (heard_on old.entries mid.entries new.entries (nothing_heard old.entries mid.entries (ap (λ (s : Standing). s.entries) back)) last) (λ b l. refl)
       by_due (Some number) back last =
           hears_one old.entries new.entries (entry who.caller asked given)
-          (heard_on old.entries mid.entries new.entries (back_heard tell who number old mid back) last)
+          (heard_on old.entries mid.entries new.entries (back_heard tell who.name who.caller number old mid back) last)
           (λ b l. ap (λ (es : List FileEntry). es ++ entry who.caller asked given ∷ []) (append-nil (b ++ listed l)))
 
 strange_heard : (caller : ℕ) (asked : Ask) (given : Answer) (old new : List FileEntry) → IsStrange caller asked old new given → HearsOne old new (entry caller asked given)
@@ -189,7 +183,7 @@ strange_heard caller asked given old new s =
 pub part_heard : (tell : Type 0) (who : Writer) (asked : Ask) (given : Answer) (old new : Standing) → IsPart tell who asked given old new → HearsOne old.entries new.entries (entry who.caller asked given)
 part_heard tell who asked given old new (answered mid due a back) = part_answered tell who asked given old mid new due due a back
 part_heard tell who asked given old new (ended mid is back all) =
-    part_ended tell who asked given old mid new (option_map (λ (h : Held). h.number) old.held) is back (ap (λ (s : Standing). s.entries) all)
+    part_ended tell who asked given old mid new (option_map (λ (h : Held). h.pass.number) old.held) is back (ap (λ (s : Standing). s.entries) all)
 part_heard tell who asked given old new (strange is s phone held) = strange_heard who.caller asked given old.entries new.entries s
 
 -- nothing more is heard but what was
@@ -207,7 +201,7 @@ module _ {g : List FileEntry → Option FileEntry → Option FileEntry} where
   }
 
 taking_heard_by : (h : Hearing) (next : Bool) (one : FileEntry) (asked : Ask) → is_taking asked ≡ true
-    → (cond next (record h { last = Some one; next = false }) (hears_by h one asked)).before ≡ h.before
+    → (cond next (record h { last = Some (heard_again h.last one); next = false }) (hears_by h one asked)).before ≡ h.before
 taking_heard_by h true one asked is = refl
 taking_heard_by h false one ask.Where is = refl
 taking_heard_by h false one (ask.HaltGot now pass) is = refl
@@ -232,7 +226,7 @@ cut_heard tell who old new (unheard asked number ltx told file sent all held) =
 cut_heard tell who old new (untaken asked pass mid a taking phone held) =
     untaken_heard old.entries mid.entries new.entries (entry who.caller asked (answer.Refuse EAGAIN)) (asks_heard tell who asked (Some pass) old mid a) taking
 cut_heard tell who old new (unreturned asked given number a) = hears_nothing old.entries new.entries (answers_heard tell who asked given old new (Some number) a)
-cut_heard tell who old new (unended number r) = hears_nothing old.entries new.entries (back_heard tell who number old new r)
+cut_heard tell who old new (unended number r) = hears_nothing old.entries new.entries (back_heard tell who.name who.caller number old new r)
 cut_heard tell who old new (unknown s phone held) = record { made = _; all = s.1; before = λ h even. ap (λ (k : Hearing). (hears k (entry who.caller (ask.Info 0) s.0)).before) (is_quiet h even) }
 
 -- ---- behind the entries from before a session

@@ -66,43 +66,43 @@ grows tell who asked old new start (Err stop.Midway) few part stops =
     let hears = cut_heard tell who old new stops in
     longer start old.entries new.entries hears.made few hears.all
 
-module _ (tell : Type 0) (name : List ℕ) (node caller caller_now : ℕ) (same : caller_now ≡ caller) (worn worn_now : Type 0) (cut : Bool) (going : cut ≡ false) (begun : List FileEntry) (phone : Phone)
+module _ (tell : Type 0) (name : List ℕ) (node caller caller_now : ℕ) (may : ℕ → Bool) (same : caller_now ≡ caller) (worn worn_now : Type 0) (cut : Bool) (going : cut ≡ false) (begun : List FileEntry) (phone : Phone)
     (old new : Standing) (few : length begun ≤ length old.entries) (even : cut ≡ false → (hearing begun old.entries).next ≡ false) where
   abbrev CarriedSo : ℕ → Type 0 → Bool → List FileEntry → Standing → Type 0
-  CarriedSo caller worn cut told new = IsCarried tell (writer name node caller) worn cut told (standing begun phone None) new
+  CarriedSo caller worn cut told new = IsCarried tell (writer name node caller may) worn cut told (standing begun phone None) new
 
   going_on : CarriedSo caller worn cut (heard cut (hearing begun old.entries)) old → CarriedSo caller worn false (with_last (hearing begun old.entries)) old
   going_on c = subst (λ (b : Bool). CarriedSo caller worn b (heard b (hearing begun old.entries)) old) going c
 
-  pub part_told : (asked : Ask) (given : Answer) → IsPart tell (writer name node caller) asked given old new
+  pub part_told : (asked : Ask) (given : Answer) → IsPart tell (writer name node caller may) asked given old new
       → with_last (hearing begun new.entries) ≡ heard cut (hearing begun old.entries) ++ entry caller asked given ∷ []
   part_told asked given part =
-      (one_more begun old.entries new.entries few (entry caller asked given) (part_heard tell (writer name node caller) asked given old new part) (even going)).0
+      (one_more begun old.entries new.entries few (entry caller asked given) (part_heard tell (writer name node caller may) asked given old new part) (even going)).0
       ∙ ap (λ (b : Bool). heard b (hearing begun old.entries) ++ entry caller asked given ∷ []) (sym going)
 
-  pub part_even : (asked : Ask) (given : Answer) → IsPart tell (writer name node caller) asked given old new → (hearing begun new.entries).next ≡ false
+  pub part_even : (asked : Ask) (given : Answer) → IsPart tell (writer name node caller may) asked given old new → (hearing begun new.entries).next ≡ false
   part_even asked given part =
-      (one_more begun old.entries new.entries few (entry caller asked given) (part_heard tell (writer name node caller) asked given old new part) (even going)).1
+      (one_more begun old.entries new.entries few (entry caller asked given) (part_heard tell (writer name node caller may) asked given old new part) (even going)).1
 
-  pub cut_told : BreaksOff tell (writer name node caller) old new → (hearing begun new.entries).before ≡ heard cut (hearing begun old.entries)
-  cut_told broke = none_more begun old.entries new.entries few (cut_heard tell (writer name node caller) old new broke) (even going) ∙ ap (λ (b : Bool). heard b (hearing begun old.entries)) (sym going)
+  pub cut_told : BreaksOff tell (writer name node caller may) old new → (hearing begun new.entries).before ≡ heard cut (hearing begun old.entries)
+  cut_told broke = none_more begun old.entries new.entries few (cut_heard tell (writer name node caller may) old new broke) (even going) ∙ ap (λ (b : Bool). heard b (hearing begun old.entries)) (sym going)
 
-  pub on_part : (asked : Ask) (given : Answer) → IsPart tell (writer name node caller) asked given old new → CarriedSo caller worn cut (heard cut (hearing begun old.entries)) old
+  pub on_part : (asked : Ask) (given : Answer) → IsPart tell (writer name node caller may) asked given old new → CarriedSo caller worn cut (heard cut (hearing begun old.entries)) old
       → CarriedSo caller_now worn_now false (with_last (hearing begun new.entries)) new
   on_part asked given part c =
       subst (λ (n : ℕ). CarriedSo n worn_now false (with_last (hearing begun new.entries)) new) (sym same)
-      (carried_on tell (writer name node caller) worn worn_now (with_last (hearing begun old.entries)) (with_last (hearing begun new.entries)) (standing begun phone None) old new asked given (going_on c) part
-      (one_more begun old.entries new.entries few (entry caller asked given) (part_heard tell (writer name node caller) asked given old new part) (even going)).0)
+      (carried_on tell (writer name node caller may) worn worn_now (with_last (hearing begun old.entries)) (with_last (hearing begun new.entries)) (standing begun phone None) old new asked given (going_on c) part
+      (one_more begun old.entries new.entries few (entry caller asked given) (part_heard tell (writer name node caller may) asked given old new part) (even going)).0)
 
-  pub on_cut : BreaksOff tell (writer name node caller) old new → worn_now → CarriedSo caller worn cut (heard cut (hearing begun old.entries)) old
+  pub on_cut : BreaksOff tell (writer name node caller may) old new → worn_now → CarriedSo caller worn cut (heard cut (hearing begun old.entries)) old
       → CarriedSo caller_now worn_now true (hearing begun new.entries).before new
   on_cut broke is_worn c =
       subst (λ (n : ℕ). CarriedSo n worn_now true (hearing begun new.entries).before new) (sym same)
-      (carried_cut tell (writer name node caller) worn worn_now (with_last (hearing begun old.entries)) (hearing begun new.entries).before (standing begun phone None) old new (going_on c) is_worn broke
-      (none_more begun old.entries new.entries few (cut_heard tell (writer name node caller) old new broke) (even going)))
+      (carried_cut tell (writer name node caller may) worn worn_now (with_last (hearing begun old.entries)) (hearing begun new.entries).before (standing begun phone None) old new (going_on c) is_worn broke
+      (none_more begun old.entries new.entries few (cut_heard tell (writer name node caller may) old new broke) (even going)))
 
   pub on_still : new ≡ old → CarriedSo caller worn cut (heard cut (hearing begun old.entries)) old → CarriedSo caller_now worn_now false (with_last (hearing begun new.entries)) new
   on_still stays c =
       subst (λ (n : ℕ). CarriedSo n worn_now false (with_last (hearing begun new.entries)) new) (sym same)
-      (carried_still tell (writer name node caller) worn worn_now (with_last (hearing begun old.entries)) (with_last (hearing begun new.entries)) (standing begun phone None) old new (going_on c) stays
+      (carried_still tell (writer name node caller may) worn worn_now (with_last (hearing begun old.entries)) (with_last (hearing begun new.entries)) (standing begun phone None) old new (going_on c) stays
       (ap (λ (s : Standing). with_last (hearing begun s.entries)) stays))

@@ -167,8 +167,8 @@ carried_grows tell who worn true heard old new c =
 module _ {M : Type 0} (steps : M → ℕ → Ask → Answer → M → Type 0) (tell worn : Type 0) where
   -- in one run of its node
   pub in_one_run : SessionsAreInOneRun steps tell worn
-  in_one_run opened who may budget old new phone phone_now result before after p gone had has =
-      let came = comes_to (record { caller = who.caller; may = may }) budget (with_entries [] old) (with_entries p.heard new) result p.session in
+  in_one_run opened who budget old new phone phone_now result before after p gone had has =
+      let came = comes_to (record { caller = who.caller; may = who.may }) budget (with_entries [] old) (with_entries p.heard new) result p.session in
       let made = carried_grows tell who worn p.cut p.heard (standing old.place.entries phone None) (standing new.place.entries phone_now p.held) p.carried in
       let mine : after.mine ≡ before.mine ++ made.0 = sym has ∙ made.1 ∙ ap (λ (es : List FileEntry). es ++ made.0) had in
       let seat = has_run steps opened who.caller before after made.0 gone mine in
@@ -176,7 +176,7 @@ module _ {M : Type 0} (steps : M → ℕ → Ask → Answer → M → Type 0) (t
         these = seat.0;
         run = seat.2;
         heard = p.heard;
-        came_to = subst (λ (es : List FileEntry). ComesTo (record { caller = who.caller; may = may }) old.place new.place es result) (sym came.1) (came_in old new came.2);
+        came_to = subst (λ (es : List FileEntry). ComesTo (record { caller = who.caller; may = who.may }) old.place new.place es result) (sym came.1) (came_in old new came.2);
         cut = p.cut;
         held = p.held;
         carried = subst (λ (es : List FileEntry). IsCarried tell who worn p.cut p.heard (standing before.mine phone None) (standing (before.mine ++ es) phone_now p.held)) (sym seat.1)

@@ -14,9 +14,9 @@ with_entries entries at = record at { place = record at.place { entries = entrie
 
 -- A SESSION UNDER PERMITS: what it asked is heard as these entries, which are those of a session; and its entries at the node and its dials
 -- to the primary are what they came to, one after another
-pub record IsPermitted (tell : Type 0) (who : Writer) (may : ℕ → Bool) (budget : ℕ) (worn : Type 0) (old new : Stand FileEntry) (phone phone_now : Phone) (result : SessionEnd) : Type 0 where
+pub record IsPermitted (tell : Type 0) (who : Writer) (budget : ℕ) (worn : Type 0) (old new : Stand FileEntry) (phone phone_now : Phone) (result : SessionEnd) : Type 0 where
   pub heard : List FileEntry
-  pub session : IsSession (record { caller = who.caller; may = may }) budget (with_entries [] old) (with_entries heard new) result
+  pub session : IsSession (record { caller = who.caller; may = who.may }) budget (with_entries [] old) (with_entries heard new) result
   pub cut : Bool
   pub held : Option Held
   pub carried : IsCarried tell who worn cut heard (standing old.place.entries phone None) (standing new.place.entries phone_now held)

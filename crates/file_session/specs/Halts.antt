@@ -66,10 +66,10 @@ abbrev pub is_send : Answer → Bool
 is_send (answer.Send number ltx) = true
 is_send _ = false
 
--- the number of the permit that goes by this ask and its answer, and the permit that is held behind it
+-- the number of the permit that goes by this ask and its answer, and the permit that is held after it
 abbrev pub owed : Option Held → Ask → Answer → Option ℕ
 owed None asked given = None
-owed (Some held) asked given = if goes held.owner asked given then Some held.number else None
+owed (Some held) asked given = if goes held.owner asked given then Some held.pass.number else None
 
 abbrev pub kept : Option Held → Ask → Answer → Option Held
 kept None asked given = None

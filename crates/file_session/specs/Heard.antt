@@ -39,8 +39,13 @@ hears_by h one (ask.HaltLost number) = record { before = with_last h; last = Non
 hears_by h one (ask.Forwarded ok) = record h { last = with_answer h.last one.answer }
 hears_by h one _ = record { before = with_last h; last = None; next = true }
 
+-- a second try of what was asked last is heard as its answer
+abbrev pub heard_again : Option FileEntry → FileEntry → FileEntry
+heard_again None one = one
+heard_again (Some first) one = record first { answer = one.answer }
+
 abbrev pub hears : Hearing → FileEntry → Hearing
-hears h one = if h.next then record h { last = Some one; next = false } else hears_by h one one.ask
+hears h one = if h.next then record h { last = Some (heard_again h.last one); next = false } else hears_by h one one.ask
 
 abbrev pub hears_all : Hearing → List FileEntry → Hearing
 hears_all h [] = h

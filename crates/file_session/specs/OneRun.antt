@@ -61,17 +61,17 @@ pub record ComesTo (who : Asker) (old new : Place FileEntry) (entries : List Fil
 module _ {M : Type 0} (steps : M → ℕ → Ask → Answer → M → Type 0) (tell worn : Type 0) where
   -- A SESSION IN ONE RUN of its node: what it asked is heard as these entries, and the bytes that it wrote are the replies to them; and
   -- these steps of the run are all that its asks came to at the node
-  pub record IsInOneRun (opened : M) (who : Writer) (may : ℕ → Bool) (before after : SeatView M Ask Answer) (old new : Place FileEntry) (phone phone_now : Phone) (result : SessionEnd) : Type 0 where
+  pub record IsInOneRun (opened : M) (who : Writer) (before after : SeatView M Ask Answer) (old new : Place FileEntry) (phone phone_now : Phone) (result : SessionEnd) : Type 0 where
     pub these : List (MadeStep M Ask Answer)
     pub run : IsInRun steps opened who.caller before after these
     pub heard : List FileEntry
-    pub came_to : ComesTo (record { caller = who.caller; may = may }) old new heard result
+    pub came_to : ComesTo (record { caller = who.caller; may = who.may }) old new heard result
     pub cut : Bool
     pub held : Option Held
     pub carried : IsCarried tell who worn cut heard (standing before.mine phone None) (standing (before.mine ++ entries_of these) phone_now held)
 
   -- each session of a seat that stands at a desk is
   abbrev pub SessionsAreInOneRun : Type 0
-  SessionsAreInOneRun = (opened : M) (who : Writer) (may : ℕ → Bool) (budget : ℕ) (old new : Stand FileEntry) (phone phone_now : Phone) (result : SessionEnd) (before after : SeatView M Ask Answer)
-      → IsPermitted tell who may budget worn old new phone phone_now result → HasGoneOn steps opened who.caller before after → old.place.entries ≡ before.mine → new.place.entries ≡ after.mine
-      → IsInOneRun opened who may before after old.place new.place phone phone_now result
+  SessionsAreInOneRun = (opened : M) (who : Writer) (budget : ℕ) (old new : Stand FileEntry) (phone phone_now : Phone) (result : SessionEnd) (before after : SeatView M Ask Answer)
+      → IsPermitted tell who budget worn old new phone phone_now result → HasGoneOn steps opened who.caller before after → old.place.entries ≡ before.mine → new.place.entries ≡ after.mine
+      → IsInOneRun opened who before after old.place new.place phone phone_now result

@@ -13,10 +13,10 @@ ghost use Rattle.file_session.specs.Permits.{held_by, is_done, is_file, is_stran
 ghost use Rattle.file_session.specs.Primary.{phone, writer};
 
 use crate::forwarding::forward;
-use crate::halting::{ask_permit, take_permit};
+use crate::halting::{have_permit, take_permit};
 use crate::permits::{Held, give_back, kept, owed, taker, wants_permit};
-use crate::primary::Means;
-use lf_base::{Dialer, Errno, Handles, Pause};
+use crate::primary::Timed;
+use lf_base::{Clock, Dialer, Errno, Handles, Pause};
 use link_session::Steps;
 use node_core::{Answer, Ask};
 use stream_wire::PassLine;
@@ -34,33 +34,45 @@ pub enum Stop {
 }
 
 /// Asks once for a session, and answers what comes of it.
-pub(crate) fn answer<R: Handles, S: Steps<Ask = Ask, Answer = Answer>, T: Dialer, P: Pause>(
-    means: &Means<'_, R>,
+pub(crate) fn answer<
+    R: Handles,
+    S: Steps<Ask = Ask, Answer = Answer>,
+    T: Dialer,
+    C: Clock + Copy,
+    P: Pause,
+>(
+    timed: &Timed<'_, R, C>,
     steps: &mut S,
     dialer: &mut T,
     pause: &mut P,
     held: &mut Option<Held>,
     ask: &Ask,
 ) -> Result<Answer, Stop>
-    ensures part { IfOk result (λ given. IsPart (LinksTell T.L.given T.L.taken) (writer means.now.name.now means.now.node (S.number steps.old)) ask.now given
+    ensures part { IfOk result (λ given. IsPart (LinksTell T.L.given T.L.taken) (writer timed.now.means.name.now timed.now.means.node (S.number steps.old) (C.may_give timed.now.clock)) ask.now given
         (standing (S.entries steps.old) (phone (T.dials dialer.old) (T.faults dialer.old)) held.old)
         (standing (S.entries steps.new) (phone (T.dials dialer.new) (T.faults dialer.new)) held.new)) }
-    ensures stops { IfErr result (StopsBy (LinksTell T.L.given T.L.taken) (writer means.now.name.now means.now.node (S.number steps.old))
+    ensures stops { IfErr result (StopsBy (LinksTell T.L.given T.L.taken) (writer timed.now.means.name.now timed.now.means.node (S.number steps.old) (C.may_give timed.now.clock))
         (standing (S.entries steps.old) (phone (T.dials dialer.old) (T.faults dialer.old)) held.old)
         (standing (S.entries steps.new) (phone (T.dials dialer.new) (T.faults dialer.new)) held.new)) }
     ensures same { (S.of steps.new ≡ S.of steps.old) × (S.number steps.new ≡ S.number steps.old) × GoesOn S.Steps steps.old steps.new }
     ensures worn { OnErr result (S.is_worn steps.new) }
 {
     match ask {
-        Ask::File { .. } => answer_request(means, steps, dialer, pause, held, ask),
-        Ask::EndSession => end_session(means, steps, dialer, held, ask),
+        Ask::File { .. } => answer_request(timed, steps, dialer, pause, held, ask),
+        Ask::EndSession => end_session(timed, steps, dialer, held, ask),
         _ => answer_strange(steps, ask),
     }
 }
 
-/// A request: a permit that is owed behind it is given back.
-fn answer_request<R: Handles, S: Steps<Ask = Ask, Answer = Answer>, T: Dialer, P: Pause>(
-    means: &Means<'_, R>,
+/// A request: a permit that is owed after it is given back.
+fn answer_request<
+    R: Handles,
+    S: Steps<Ask = Ask, Answer = Answer>,
+    T: Dialer,
+    C: Clock + Copy,
+    P: Pause,
+>(
+    timed: &Timed<'_, R, C>,
     steps: &mut S,
     dialer: &mut T,
     pause: &mut P,
@@ -68,17 +80,17 @@ fn answer_request<R: Handles, S: Steps<Ask = Ask, Answer = Answer>, T: Dialer, P
     ask: &Ask,
 ) -> Result<Answer, Stop>
     requires { is_file ask.now ≡ true }
-    ensures part { IfOk result (λ given. IsPart (LinksTell T.L.given T.L.taken) (writer means.now.name.now means.now.node (S.number steps.old)) ask.now given
+    ensures part { IfOk result (λ given. IsPart (LinksTell T.L.given T.L.taken) (writer timed.now.means.name.now timed.now.means.node (S.number steps.old) (C.may_give timed.now.clock)) ask.now given
         (standing (S.entries steps.old) (phone (T.dials dialer.old) (T.faults dialer.old)) held.old)
         (standing (S.entries steps.new) (phone (T.dials dialer.new) (T.faults dialer.new)) held.new)) }
-    ensures stops { IfErr result (StopsBy (LinksTell T.L.given T.L.taken) (writer means.now.name.now means.now.node (S.number steps.old))
+    ensures stops { IfErr result (StopsBy (LinksTell T.L.given T.L.taken) (writer timed.now.means.name.now timed.now.means.node (S.number steps.old) (C.may_give timed.now.clock))
         (standing (S.entries steps.old) (phone (T.dials dialer.old) (T.faults dialer.old)) held.old)
         (standing (S.entries steps.new) (phone (T.dials dialer.new) (T.faults dialer.new)) held.new)) }
     ensures same { (S.of steps.new ≡ S.of steps.old) × (S.number steps.new ≡ S.number steps.old) × GoesOn S.Steps steps.old steps.new }
     ensures worn { OnErr result (S.is_worn steps.new) }
 {
-    match ask_request(means, steps, dialer, pause, held, ask) {
-        Ok((given, due)) => match give_back(means, steps, dialer, due) {
+    match ask_request(timed, steps, dialer, pause, held, ask) {
+        Ok((given, due)) => match give_back(&timed.means, steps, dialer, due) {
             Ok(()) => Ok(given),
             Err(_) => Err(Stop::Midway),
         },
@@ -87,8 +99,14 @@ fn answer_request<R: Handles, S: Steps<Ask = Ask, Answer = Answer>, T: Dialer, P
 }
 
 /// Its answer, and the number of the permit that is owed then.
-fn ask_request<R: Handles, S: Steps<Ask = Ask, Answer = Answer>, T: Dialer, P: Pause>(
-    means: &Means<'_, R>,
+fn ask_request<
+    R: Handles,
+    S: Steps<Ask = Ask, Answer = Answer>,
+    T: Dialer,
+    C: Clock + Copy,
+    P: Pause,
+>(
+    timed: &Timed<'_, R, C>,
     steps: &mut S,
     dialer: &mut T,
     pause: &mut P,
@@ -96,10 +114,10 @@ fn ask_request<R: Handles, S: Steps<Ask = Ask, Answer = Answer>, T: Dialer, P: P
     ask: &Ask,
 ) -> Result<(Answer, Option<u64>), Stop>
     requires { is_file ask.now ≡ true }
-    ensures answers { IfOk result (λ p. Answers (LinksTell T.L.given T.L.taken) (writer means.now.name.now means.now.node (S.number steps.old)) ask.now p.0
+    ensures answers { IfOk result (λ p. Answers (LinksTell T.L.given T.L.taken) (writer timed.now.means.name.now timed.now.means.node (S.number steps.old) (C.may_give timed.now.clock)) ask.now p.0
         (standing (S.entries steps.old) (phone (T.dials dialer.old) (T.faults dialer.old)) held.old)
         (standing (S.entries steps.new) (phone (T.dials dialer.new) (T.faults dialer.new)) held.new) p.1) }
-    ensures stops { IfErr result (StopsBy (LinksTell T.L.given T.L.taken) (writer means.now.name.now means.now.node (S.number steps.old))
+    ensures stops { IfErr result (StopsBy (LinksTell T.L.given T.L.taken) (writer timed.now.means.name.now timed.now.means.node (S.number steps.old) (C.may_give timed.now.clock))
         (standing (S.entries steps.old) (phone (T.dials dialer.old) (T.faults dialer.old)) held.old)
         (standing (S.entries steps.new) (phone (T.dials dialer.new) (T.faults dialer.new)) held.new)) }
     ensures same { (S.of steps.new ≡ S.of steps.old) × (S.number steps.new ≡ S.number steps.old) × GoesOn S.Steps steps.old steps.new }
@@ -107,14 +125,14 @@ fn ask_request<R: Handles, S: Steps<Ask = Ask, Answer = Answer>, T: Dialer, P: P
 {
     match steps.ask(ask) {
         Ok(Answer::Send { number, ltx }) => {
-            match forward(means, steps, dialer, pause, number, &ltx) {
+            match forward(&timed.means, steps, dialer, pause, number, &ltx) {
                 Ok(given) => Ok(settle(held, ask, given)),
                 Err(_) => Err(Stop::Midway),
             }
         }
         Ok(given) => {
             if wants_permit(ask, &given) {
-                want_permit(means, steps, dialer, pause, held, ask)
+                want_permit(timed, steps, dialer, held, ask)
             } else {
                 Ok(settle(held, ask, given))
             }
@@ -123,7 +141,7 @@ fn ask_request<R: Handles, S: Steps<Ask = Ask, Answer = Answer>, T: Dialer, P: P
     }
 }
 
-/// What is owed and held behind an answer.
+/// What is owed and held after an answer.
 fn settle(held: &mut Option<Held>, ask: &Ask, given: Answer) -> (Answer, Option<u64>)
     ensures result { result ≡ (given, owed held.old ask.now given) }
     ensures held { held.new ≡ kept held.old ask.now given }
@@ -134,55 +152,64 @@ fn settle(held: &mut Option<Held>, ask: &Ask, given: Answer) -> (Answer, Option<
 }
 
 /// The answer to a request for the lock on HALT, which a replica has refused: by a permit of the primary.
-fn want_permit<R: Handles, S: Steps<Ask = Ask, Answer = Answer>, T: Dialer, P: Pause>(
-    means: &Means<'_, R>,
+fn want_permit<
+    R: Handles,
+    S: Steps<Ask = Ask, Answer = Answer>,
+    T: Dialer,
+    C: Clock + Copy,
+>(
+    timed: &Timed<'_, R, C>,
     steps: &mut S,
     dialer: &mut T,
-    pause: &mut P,
     held: &mut Option<Held>,
     ask: &Ask,
 ) -> Result<(Answer, Option<u64>), Stop>
     requires { is_some (taker ask.now) ≡ true }
     ensures answers { (before : List FileEntry) → S.entries steps.old ≡ before ++ entry (S.number steps.old) ask.now (answer.Refuse EROFS) ∷ []
-        → IfOk result (λ p. Answers (LinksTell T.L.given T.L.taken) (writer means.now.name.now means.now.node (S.number steps.old)) ask.now p.0
+        → IfOk result (λ p. Answers (LinksTell T.L.given T.L.taken) (writer timed.now.means.name.now timed.now.means.node (S.number steps.old) (C.may_give timed.now.clock)) ask.now p.0
         (standing before (phone (T.dials dialer.old) (T.faults dialer.old)) held.old)
         (standing (S.entries steps.new) (phone (T.dials dialer.new) (T.faults dialer.new)) held.new) p.1) }
     ensures stops { (before : List FileEntry) → S.entries steps.old ≡ before ++ entry (S.number steps.old) ask.now (answer.Refuse EROFS) ∷ []
-        → IfErr result (StopsBy (LinksTell T.L.given T.L.taken) (writer means.now.name.now means.now.node (S.number steps.old))
+        → IfErr result (StopsBy (LinksTell T.L.given T.L.taken) (writer timed.now.means.name.now timed.now.means.node (S.number steps.old) (C.may_give timed.now.clock))
         (standing before (phone (T.dials dialer.old) (T.faults dialer.old)) held.old)
         (standing (S.entries steps.new) (phone (T.dials dialer.new) (T.faults dialer.new)) held.new)) }
     ensures same { (S.of steps.new ≡ S.of steps.old) × (S.number steps.new ≡ S.number steps.old) × GoesOn S.Steps steps.old steps.new }
     ensures worn { OnErr result (S.is_worn steps.new) }
 {
-    match ask_permit(means, dialer) {
-        Some(pass) => under_permit(steps, pause, held, ask, pass),
+    match have_permit(&timed.means, dialer, *held, ask) {
+        Some(pass) => under_permit(timed.clock, steps, held, ask, pass),
         None => Ok((Answer::Refuse(HELD), None)),
     }
 }
 
-/// The same once the primary gave this permit.
-fn under_permit<S: Steps<Ask = Ask, Answer = Answer>, P: Pause>(
+/// The same once this permit is had. It is kept until the node is at its position.
+fn under_permit<S: Steps<Ask = Ask, Answer = Answer>, C: Clock + Copy>(
+    clock: C,
     steps: &mut S,
-    pause: &mut P,
     held: &mut Option<Held>,
     ask: &Ask,
     pass: PassLine,
 ) -> Result<(Answer, Option<u64>), Stop>
-    ensures under { IfOk result (λ p. UnderPermit (S.number steps.old) ask.now pass p.0 (S.entries steps.old) (S.entries steps.new) held.old held.new p.1) }
+    requires { is_some (taker ask.now) ≡ true }
+    ensures under { IfOk result (λ p. UnderPermit (C.may_give clock) (S.number steps.old) ask.now pass p.0 (S.entries steps.old) (S.entries steps.new) held.new p.1) }
     ensures stops { IfErr result (StopsUnder (S.entries steps.old) (S.entries steps.new) held.old held.new) }
     ensures same { (S.of steps.new ≡ S.of steps.old) × (S.number steps.new ≡ S.number steps.old) × GoesOn S.Steps steps.old steps.new }
     ensures worn { OnErr result (S.is_worn steps.new) }
 {
-    match take_permit(steps, pause, ask, pass) {
+    match take_permit(clock, steps, ask, pass) {
         Ok(Some(given)) => {
             if is_done(&given) {
-                *held = held_by(pass, ask);
+                *held = held_by(pass, true, ask);
                 Ok((given, None))
             } else {
+                *held = None;
                 Ok((given, Some(pass.number)))
             }
         }
-        Ok(None) => Ok((Answer::Refuse(HELD), Some(pass.number))),
+        Ok(None) => {
+            *held = held_by(pass, false, ask);
+            Ok((Answer::Refuse(HELD), None))
+        }
         Err(_) => Err(Stop::Midway),
     }
 }
@@ -194,39 +221,41 @@ fn is_done(answer: &Answer) -> bool
     matches!(answer, Answer::Done(_))
 }
 
-/// This permit, held for the owner who asks.
-fn held_by(pass: PassLine, ask: &Ask) -> Option<Held>
-    ensures { result ≡ held_by pass ask.now }
+/// This permit, had for the owner who asks.
+fn held_by(pass: PassLine, taken: bool, ask: &Ask) -> Option<Held>
+    ensures { result ≡ held_by pass taken ask.now }
 {
     match taker(ask) {
-        Some(owner) => Some(Held {
-            number: pass.number,
-            owner,
-        }),
+        Some(owner) => Some(Held { pass, owner, taken }),
         None => None,
     }
 }
 
-/// The session's end: a permit that is held is given back first.
-fn end_session<R: Handles, S: Steps<Ask = Ask, Answer = Answer>, T: Dialer>(
-    means: &Means<'_, R>,
+/// The session's end: a permit that it has is given back first, taken or not.
+fn end_session<
+    R: Handles,
+    S: Steps<Ask = Ask, Answer = Answer>,
+    T: Dialer,
+    C: Clock + Copy,
+>(
+    timed: &Timed<'_, R, C>,
     steps: &mut S,
     dialer: &mut T,
     held: &mut Option<Held>,
     ask: &Ask,
 ) -> Result<Answer, Stop>
     requires { ask.now ≡ asks.EndSession }
-    ensures part { IfOk result (λ given. IsPart (LinksTell T.L.given T.L.taken) (writer means.now.name.now means.now.node (S.number steps.old)) ask.now given
+    ensures part { IfOk result (λ given. IsPart (LinksTell T.L.given T.L.taken) (writer timed.now.means.name.now timed.now.means.node (S.number steps.old) (C.may_give timed.now.clock)) ask.now given
         (standing (S.entries steps.old) (phone (T.dials dialer.old) (T.faults dialer.old)) held.old)
         (standing (S.entries steps.new) (phone (T.dials dialer.new) (T.faults dialer.new)) held.new)) }
-    ensures stops { IfErr result (StopsBy (LinksTell T.L.given T.L.taken) (writer means.now.name.now means.now.node (S.number steps.old))
+    ensures stops { IfErr result (StopsBy (LinksTell T.L.given T.L.taken) (writer timed.now.means.name.now timed.now.means.node (S.number steps.old) (C.may_give timed.now.clock))
         (standing (S.entries steps.old) (phone (T.dials dialer.old) (T.faults dialer.old)) held.old)
         (standing (S.entries steps.new) (phone (T.dials dialer.new) (T.faults dialer.new)) held.new)) }
     ensures same { (S.of steps.new ≡ S.of steps.old) × (S.number steps.new ≡ S.number steps.old) × GoesOn S.Steps steps.old steps.new }
     ensures worn { OnErr result (S.is_worn steps.new) }
 {
     let due = number_of(*held);
-    match give_back(means, steps, dialer, due) {
+    match give_back(&timed.means, steps, dialer, due) {
         Ok(()) => {}
         Err(_) => return Err(Stop::Unasked),
     }
@@ -239,12 +268,12 @@ fn end_session<R: Handles, S: Steps<Ask = Ask, Answer = Answer>, T: Dialer>(
     }
 }
 
-/// The number of the permit that is held.
+/// The number of the permit that is had.
 fn number_of(held: Option<Held>) -> Option<u64>
-    ensures { result ≡ option_map (λ (h : Held). h.number) held }
+    ensures { result ≡ option_map (λ (h : Held). h.pass.number) held }
 {
     match held {
-        Some(held) => Some(held.number),
+        Some(held) => Some(held.pass.number),
         None => None,
     }
 }

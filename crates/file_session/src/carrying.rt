@@ -12,7 +12,7 @@ ghost use Rattle.file_session.specs.Primary.{phone, writer, Phone};
 
 use crate::answering::{Stop, answer};
 use crate::permits::Held;
-use crate::primary::Means;
+use crate::primary::Timed;
 use crate::session::serve_link;
 use lf_base::{Clock, Dialer, Handles, Link, Name, Pause, SessionEnd};
 use link_session::{Session, Steps};
@@ -37,14 +37,15 @@ impl Begun for Brand {
     ghost phone = { phone None 0 };
 }
 
-/// By what a session asks: of which outside, by which dialer, for which database and node. It exists in
-/// contracts alone.
-pub struct CarryPlace<O> {
+/// By what a session asks: of which outside, by which dialer, for which database and node, and by which clock. It
+/// exists in contracts alone.
+pub struct CarryPlace<O, C> {
     pub inner: O,
     pub steps: u64,
     pub dialer: u64,
     pub name: Name,
     pub node: u64,
+    pub clock: C,
 }
 
 /// The steps of a session, each carried out by steps of the node and exchanges with its primary.
@@ -58,13 +59,14 @@ pub(crate) struct Carrying<
     S: Steps<Ask = Ask, Answer = Answer>,
     R,
     T,
+    C,
     P,
 > {
-    pub(crate) means: Means<'m, R>,
+    pub(crate) timed: Timed<'m, R, C>,
     pub(crate) steps: &'s mut S,
     pub(crate) dialer: &'d mut T,
     pub(crate) pause: &'p mut P,
-    /// The permit that the session holds.
+    /// The permit that the session has: its lock is taken, or it waits for it.
     pub(crate) held: Option<Held>,
     /// Whether the last ask is not answered: it broke off.
     pub(crate) cut: bool,
@@ -73,22 +75,28 @@ pub(crate) struct Carrying<
     ghost even: { cut ≡ false → (hearing K.entries (S.entries steps.now)).next ≡ false } by { Prim.hlevel props },
 }
 
-impl<K: Begun, R: Handles, S: Steps<Ask = Ask, Answer = Answer>, T: Dialer, P: Pause> Steps
-    for Carrying<'_, '_, '_, '_, K, S, R, T, P> {
+impl<
+    K: Begun,
+    R: Handles,
+    S: Steps<Ask = Ask, Answer = Answer>,
+    T: Dialer,
+    C: Clock + Copy,
+    P: Pause,
+> Steps for Carrying<'_, '_, '_, '_, K, S, R, T, C, P> {
     type Ask = Ask;
 
     type Answer = Answer;
 
-    type Outside = CarryPlace<S::Outside>;
+    type Outside = CarryPlace<S::Outside, C>;
 
     ghost entries = { λ s. heard s.cut (hearing K.entries (S.entries s.steps.now)) };
 
     ghost number = { λ s. S.number s.steps.now };
 
-    ghost of = { λ s. record { inner = S.of s.steps.now; steps = s.steps.ghost_name; dialer = s.dialer.ghost_name; name = s.means.name.now; node = s.means.node } };
+    ghost of = { λ s. record { inner = S.of s.steps.now; steps = s.steps.ghost_name; dialer = s.dialer.ghost_name; name = s.timed.means.name.now; node = s.timed.means.node; clock = s.timed.clock } };
 
     ghost goes_on = { λ s front. S.goes_on s.steps.now front
-        × IsCarried (LinksTell T.L.given T.L.taken) (writer s.means.name.now s.means.node (S.number s.steps.now)) (S.is_worn s.steps.now) s.cut
+        × IsCarried (LinksTell T.L.given T.L.taken) (writer s.timed.means.name.now s.timed.means.node (S.number s.steps.now) (C.may_give s.timed.clock)) (S.is_worn s.steps.now) s.cut
         (heard s.cut (hearing K.entries (S.entries s.steps.now))) (standing K.entries K.phone None)
         (standing (S.entries s.steps.now) (phone (T.dials s.dialer.now) (T.faults s.dialer.now)) s.held) };
 
@@ -103,7 +111,7 @@ impl<K: Begun, R: Handles, S: Steps<Ask = Ask, Answer = Answer>, T: Dialer, P: P
         // Until it is answered.
         self.cut = true;
         match answer(
-            &self.means,
+            &self.timed,
             self.steps,
             self.dialer,
             self.pause,
@@ -131,27 +139,28 @@ pub(crate) fn serve_steps<
     R: Handles,
     L: Link,
     T: Dialer,
-    C: Clock,
+    C: Clock + Copy,
     P: Pause,
     N: Pause,
 >(
     session: &mut Session<L, C, P>,
     steps: &mut S,
-    means: Means<'_, R>,
+    timed: Timed<'_, R, C>,
     dialer: &mut T,
     pause: &mut N,
 ) -> SessionEnd
+    requires clock { timed.entry.clock ≡ session.old.clock.now }
     requires entries { K.entries ≡ S.entries steps.old }
     requires seen { S.goes_on steps.old K.seen }
     requires phone { K.phone ≡ phone (T.dials dialer.old) (T.faults dialer.old) }
-    ensures session { IsPermitted (LinksTell T.L.given T.L.taken) (writer means.entry.name.now means.entry.node (S.number steps.old)) (C.may_give session.old.clock.now) session.old.turns
+    ensures session { IsPermitted (LinksTell T.L.given T.L.taken) (writer timed.entry.means.name.now timed.entry.means.node (S.number steps.old) (C.may_give session.old.clock.now)) session.old.turns
         (S.is_worn steps.new) (stand_of S.Steps L.Link session.old steps.old) (stand_of S.Steps L.Link session.new steps.new)
         (phone (T.dials dialer.old) (T.faults dialer.old)) (phone (T.dials dialer.new) (T.faults dialer.new)) result }
     ensures same { SessionGoesOn S.Steps C.Clock session.old session.new steps.old steps.new }
     ensures worn { result ≡ ends.Worn → S.is_worn steps.new }
 {
     let mut carrying = Carrying {
-        means,
+        timed,
         steps,
         dialer,
         pause,

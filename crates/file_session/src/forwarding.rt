@@ -1,10 +1,10 @@
 //! A commit is sent to the primary, and the node hears whether it was accepted.
-ghost use Rattle.std.specs.Prelude.{◌≡◌, ℕ, IfOk, OnErr, MatchBool};
+ghost use Rattle.std.specs.Prelude.{◌≡◌, IfOk, OnErr, MatchBool};
 ghost use Rattle.link_session.specs.Stands.{GoesOn};
 ghost use Rattle.stream_wire.specs.declared.call.Call.TheVariants as call;
 ghost use Rattle.http_exchange.specs.Exchange.{LinksTell};
 ghost use Rattle.file_session.specs.Forwarding.{is_accepted, Hears, IsHeldBack, IsSent, Sends};
-ghost use Rattle.file_session.specs.Primary.{file_request, phone, request, writer};
+ghost use Rattle.file_session.specs.Primary.{file_request, phone, request};
 
 use crate::primary::{Means, ask_primary, line_of};
 use http_exchange::{Told, Untold};
@@ -30,9 +30,9 @@ pub(crate) fn forward<R: Handles, S: Steps<Ask = Ask, Answer = Answer>, T: Diale
     number: u64,
     ltx: &Bytes,
 ) -> Result<Answer, Worn>
-    ensures hears { IfOk result (Hears (LinksTell T.L.given T.L.taken) (file_request (writer means.now.name.now means.now.node (S.number steps.old)) number ltx.now) (S.number steps.old)
+    ensures hears { IfOk result (Hears (LinksTell T.L.given T.L.taken) (file_request means.now.name.now number ltx.now) (S.number steps.old)
         (phone (T.dials dialer.old) (T.faults dialer.old)) (phone (T.dials dialer.new) (T.faults dialer.new)) (S.entries steps.old) (S.entries steps.new)) }
-    ensures sends { OnErr result (Sends (LinksTell T.L.given T.L.taken) (file_request (writer means.now.name.now means.now.node (S.number steps.old)) number ltx.now)
+    ensures sends { OnErr result (Sends (LinksTell T.L.given T.L.taken) (file_request means.now.name.now number ltx.now)
         (phone (T.dials dialer.old) (T.faults dialer.old)) (phone (T.dials dialer.new) (T.faults dialer.new))) }
     ensures still { OnErr result (S.entries steps.new ≡ S.entries steps.old) }
     ensures same { (S.of steps.new ≡ S.of steps.old) × (S.number steps.new ≡ S.number steps.old) × GoesOn S.Steps steps.old steps.new }
@@ -51,7 +51,7 @@ fn send<R: Handles, T: Dialer, P: Pause>(
     number: u64,
     ltx: &Bytes,
 ) -> Result<Told, Untold>
-    ensures { (caller : ℕ) → IsSent (LinksTell T.L.given T.L.taken) (file_request (writer means.now.name.now means.now.node caller) number ltx.now)
+    ensures { IsSent (LinksTell T.L.given T.L.taken) (file_request means.now.name.now number ltx.now)
         (phone (T.dials dialer.old) (T.faults dialer.old)) (phone (T.dials dialer.new) (T.faults dialer.new)) result }
 {
     match line_of(means.alloc, means.name, number) {

@@ -1,18 +1,18 @@
 //! A permit of the primary: for whose lock on HALT it is, who wants one, and how it is given back.
-ghost use Rattle.std.specs.Prelude.{◌≡◌, true, ℕ, is_some, Option, OnOk, OnErr};
+ghost use Rattle.std.specs.Prelude.{◌≡◌, true, is_some, Option, OnOk, OnErr};
 ghost use Rattle.file_session.specs.Halts.{goes, has_halt, is_owner, kept, leaver, leaver_at, owed, taker, taker_at, wants_permit};
 ghost use Rattle.link_session.specs.Stands.{GoesOn};
 ghost use Rattle.http_exchange.specs.Exchange.{LinksTell};
 ghost use Rattle.file_session.specs.declared.permits.Held.{Held};
 ghost use Rattle.file_session.specs.Permits.{standing, GivesBack, Returns};
-ghost use Rattle.file_session.specs.Primary.{phone, writer, TellsBack};
+ghost use Rattle.file_session.specs.Primary.{phone, TellsBack};
 
 use crate::primary::{Means, ask_primary, line_of};
 use fuse_msgs::{LockWish, Op};
 use lf_base::{Dialer, Handles};
 use link_session::Steps;
 use node_core::{Answer, Ask};
-use stream_wire::Call;
+use stream_wire::{Call, PassLine};
 use turn_desk::Worn;
 
 /// The node of the file whose locks halt a primary.
@@ -27,8 +27,10 @@ const READ_ONLY: u32 = 30;
 /// A permit of the primary, and the owner whose lock on HALT it is for.
 #[derive(Clone, Copy, Debug, PartialEq, Eq)]
 pub struct Held {
-    pub number: u64,
+    pub pass: PassLine,
     pub owner: u64,
+    /// Whether the lock is taken; else the permit waits for it, until the node is at its position.
+    pub taken: bool,
 }
 
 /// Whether a range on this node has the byte of HALT.
@@ -139,7 +141,8 @@ fn goes(owner: u64, ask: &Ask, answer: &Answer) -> bool
     }
 }
 
-fn is_owner(owner: u64, other: Option<u64>) -> bool
+/// Whether the owner is this one.
+pub(crate) fn is_owner(owner: u64, other: Option<u64>) -> bool
     ensures { result ≡ is_owner owner other }
 {
     match other {
@@ -165,7 +168,7 @@ pub(crate) fn owed(held: Option<Held>, ask: &Ask, answer: &Answer) -> Option<u64
     match held {
         Some(held) => {
             if goes(held.owner, ask, answer) {
-                Some(held.number)
+                Some(held.pass.number)
             } else {
                 None
             }
@@ -174,7 +177,7 @@ pub(crate) fn owed(held: Option<Held>, ask: &Ask, answer: &Answer) -> Option<u64
     }
 }
 
-/// The permit that is held behind it.
+/// The permit that is held after it.
 pub(crate) fn kept(held: Option<Held>, ask: &Ask, answer: &Answer) -> Option<Held>
     ensures { result ≡ kept held ask.now answer.now }
 {
@@ -197,7 +200,7 @@ pub(crate) fn give_back<R: Handles, S: Steps<Ask = Ask, Answer = Answer>, T: Dia
     dialer: &mut T,
     due: Option<u64>,
 ) -> Result<(), Worn>
-    ensures back { (held : Option Held) → OnOk result (GivesBack (LinksTell T.L.given T.L.taken) (writer means.now.name.now means.now.node (S.number steps.old)) due
+    ensures back { (held : Option Held) → OnOk result (GivesBack (LinksTell T.L.given T.L.taken) means.now.name.now (S.number steps.old) due
         (standing (S.entries steps.old) (phone (T.dials dialer.old) (T.faults dialer.old)) held) (standing (S.entries steps.new) (phone (T.dials dialer.new) (T.faults dialer.new)) held)) }
     ensures still { OnErr result ((S.entries steps.new ≡ S.entries steps.old) × (dialer.new ≡ dialer.old)) }
     ensures same { (S.of steps.new ≡ S.of steps.old) × (S.number steps.new ≡ S.number steps.old) × GoesOn S.Steps steps.old steps.new }
@@ -218,7 +221,7 @@ fn return_permit<R: Handles, S: Steps<Ask = Ask, Answer = Answer>, T: Dialer>(
     dialer: &mut T,
     number: u64,
 ) -> Result<(), Worn>
-    ensures back { (held : Option Held) → OnOk result (Returns (LinksTell T.L.given T.L.taken) (writer means.now.name.now means.now.node (S.number steps.old)) number
+    ensures back { (held : Option Held) → OnOk result (Returns (LinksTell T.L.given T.L.taken) means.now.name.now (S.number steps.old) number
         (standing (S.entries steps.old) (phone (T.dials dialer.old) (T.faults dialer.old)) held) (standing (S.entries steps.new) (phone (T.dials dialer.new) (T.faults dialer.new)) held)) }
     ensures still { OnErr result ((S.entries steps.new ≡ S.entries steps.old) × (dialer.new ≡ dialer.old)) }
     ensures same { (S.of steps.new ≡ S.of steps.old) × (S.number steps.new ≡ S.number steps.old) × GoesOn S.Steps steps.old steps.new }
@@ -234,7 +237,7 @@ fn return_permit<R: Handles, S: Steps<Ask = Ask, Answer = Answer>, T: Dialer>(
 
 /// Tells the primary, whatever it replies.
 fn tell_back<R: Handles, T: Dialer>(means: &Means<'_, R>, dialer: &mut T, number: u64)
-    ensures { (caller : ℕ) → TellsBack (LinksTell T.L.given T.L.taken) (writer means.now.name.now means.now.node caller) number
+    ensures { TellsBack (LinksTell T.L.given T.L.taken) means.now.name.now number
         (phone (T.dials dialer.old) (T.faults dialer.old)) (phone (T.dials dialer.new) (T.faults dialer.new)) }
 {
     if let Ok(line) = line_of(means.alloc, means.name, number) {

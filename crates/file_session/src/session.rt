@@ -12,7 +12,7 @@ ghost use Rattle.link_session.specs.declared.stage.Stage.TheVariants as stages;
 ghost use Rattle.file_session.specs.Session.{AsksEnd, Conversation, IsSession};
 
 use crate::carrying::serve_steps;
-use crate::primary::Means;
+use crate::primary::{Means, Timed};
 use crate::serving::serve_message;
 use fuse_msgs::MessageFeed;
 use lf_base::{Clock, Dialer, Handles, Link, Name, Pause, SessionEnd};
@@ -26,18 +26,20 @@ use turn_desk::Machine;
 ///
 /// Each message is asked and its reply written before the next is read. A SETLKW is asked again after
 /// a nap while another holds its lock. A replica asks its primary for a write permit for whoever takes
-/// the lock on HALT, and sends it the commits that are made under it.
+/// the lock on HALT, and sends it the commits that are made under it. While the node is not at the
+/// permit's position the lock is refused as held, and the permit is kept for the next try.
 ///
 /// Each turn of the session is a call of the link that moves bytes, or an ask of the
 /// session. What an ask comes to, exchanges with the primary among it, takes no turn of these. `id` is
-/// the number by which the node asks for permits. The dialer knows where the primary is: it is given an
-/// empty address. The pause is for naps between exchanges.
+/// the number by which the node asks for permits. The dialer knows where the primary is: in place of an
+/// address it is given what the link is for, `PERMITS` or an empty text. The pause is for naps between
+/// exchanges.
 pub fn serve_files<
     R: Handles + Copy,
     M: Machine<Ask = Ask, Answer = Answer>,
     L: Link,
     T: Dialer,
-    C: Clock,
+    C: Clock + Copy,
     P: Pause,
     N: Pause,
 >(
@@ -48,7 +50,7 @@ pub fn serve_files<
     dialer: &mut T,
     pause: &mut N,
 ) -> SessionEnd
-    ensures session { IsPermitted (LinksTell T.L.given T.L.taken) (writer name.now id (number_of at.old.seat.now)) (C.may_give session.old.clock.now) session.old.turns
+    ensures session { IsPermitted (LinksTell T.L.given T.L.taken) (writer name.now id (number_of at.old.seat.now) (C.may_give session.old.clock.now)) session.old.turns
         (FoundWorn at.new.seat.now)
         (stand L.Link session.old.link.now (view at.old.seat.now).mine) (stand L.Link session.new.link.now (view at.new.seat.now).mine)
         (phone (T.dials dialer.old) (T.faults dialer.old)) (phone (T.dials dialer.new) (T.faults dialer.new)) result }
@@ -66,7 +68,11 @@ pub fn serve_files<
         name,
         node: id,
     };
-    serve_steps::<Brand, AtSeat<'_, '_, M, R>, R, L, T, C, P, N>(session, at, means, dialer, pause)
+    let timed = Timed {
+        means,
+        clock: *session.clock,
+    };
+    serve_steps::<Brand, AtSeat<'_, '_, M, R>, R, L, T, C, P, N>(session, at, timed, dialer, pause)
 }
 
 /// Serves the files to one client, to the end of its session.

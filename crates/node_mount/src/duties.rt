@@ -72,13 +72,14 @@ pub fn duties_of<T: Dialer + Drop, C: Copy>(
     Ok(Some(Duties { primary, rounds }))
 }
 
-/// What dials the primary that a node with these duties follows; without any, nobody.
-pub fn to_primary<T: Dialer, C>(duties: &Option<Duties<T, C>>, dialer: &T) -> ToPrimary<T>
+/// What dials the primary that a node with these duties follows, by this dialer; without any, nobody.
+pub fn to_primary<T: Dialer, C>(duties: &Option<Duties<T, C>>, dialer: T) -> ToPrimary<T>
+    requires { T.faults dialer ≡ 0 }
     ensures { ⟦<ToPrimary<T> as Dialer>⟧.faults result ≡ 0 }
 {
     match duties {
-        Some(duties) => duties.primary.dialer.another(),
-        None => ToPrimary::nowhere(dialer.another()),
+        Some(duties) => duties.primary.dialer.by(dialer),
+        None => ToPrimary::nowhere(dialer),
     }
 }
 

@@ -7,6 +7,7 @@
 
 mod asked;
 mod board;
+mod by_purpose;
 mod broken;
 mod complaining;
 mod configuration;

@@ -8,6 +8,9 @@ use node_settings::{LeaseSettings, LeaseType};
 /// is written to.
 pub const HTTP_PATIENCE: u64 = 30_000;
 
+/// For how many milliseconds a session waits for the primary at each call about a permit: a client's lock waits for it.
+pub const PERMIT_PATIENCE: u64 = 1_000;
+
 /// For how many milliseconds a replica waits for its primary: half a lease, at least half a second and
 /// at most half a minute; with a static lease half a minute.
 pub fn following_patience(lease: &LeaseSettings) -> u64

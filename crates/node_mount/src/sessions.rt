@@ -4,6 +4,7 @@ ghost use Rattle.lf_base.specs.Faults.{CountsFaults};
 ghost use Rattle.node_mount.specs.Places.{HasSeenNone};
 ghost use Rattle.turn_desk.specs.Seats.{IsOf};
 
+use crate::by_purpose::ByPurpose;
 use crate::counted_link::CountedLink;
 use crate::means::Means;
 use crate::place::Place;
@@ -28,7 +29,7 @@ pub const LINKS: u64 = 1 << 40;
 pub struct Writer<T> {
     pub name: Name,
     pub node: u64,
-    pub dialer: ToPrimary<T>,
+    pub dialer: ByPurpose<ToPrimary<T>>,
     /// Where what is refused is counted.
     pub tally: Tally,
 }
@@ -104,7 +105,7 @@ fn serve_counted<
     L: Link + Drop,
     U: Link + Drop,
     T: Dialer<L = U> + Drop,
-    C: Clock,
+    C: Clock + Copy,
     P: Pause,
 >(means: &mut Means<R, C, P>, place: &mut Place<K>, link: L, writer: Writer<T>) {
     let desk = &*place.desk;
@@ -128,7 +129,7 @@ struct Served<L, W, N, T> {
     between: N,
     name: Name,
     node: u64,
-    dialer: ToPrimary<T>,
+    dialer: ByPurpose<ToPrimary<T>>,
 }
 
 /// Serves the files on a link by the seat, to the end of the session.
@@ -138,7 +139,7 @@ fn serve_client<
     L: Link,
     U: Link + Drop,
     T: Dialer<L = U>,
-    C: Clock,
+    C: Clock + Copy,
     P: Pause,
     W: Pause,
     N: Pause,

@@ -4,16 +4,17 @@ ghost use Rattle.node_mount.specs.Asking.{AsksMount};
 ghost use Rattle.node_mount.specs.Duties.{AreDuties, HasDialer};
 ghost use Rattle.node_mount.specs.Mounters.{Mounts};
 
+use crate::by_purpose::ByPurpose;
 use crate::duties::{Duties, KeeperParts, board_of, duties_of, to_primary};
 use crate::maker::Maker;
 use crate::mount_keeper::MountKeeper;
 use crate::node_gauge::Meters;
 use crate::notes::Notes;
-use crate::patience::lease_patience;
+use crate::patience::{PERMIT_PATIENCE, lease_patience};
 use crate::sessions::Writer;
 use crate::tell::Lines;
 use crate::watching::{Watching, watching_of};
-use lf_base::{Clock, NoMemory};
+use lf_base::{Clock, Dialer, NoMemory};
 use node_settings::{LeaseType, Settings};
 use std::alloc::Global;
 
@@ -59,7 +60,10 @@ pub fn tasks_of<M: Maker>(
     let writer = Writer {
         name: settings.database.copy()?,
         node,
-        dialer: to_primary(&duties, dialer),
+        dialer: ByPurpose::new(
+            to_primary(&duties, make.dialer(PERMIT_PATIENCE)),
+            to_primary(&duties, dialer.another()),
+        ),
         tally: tally.another()?,
     };
     let meters = Meters {

@@ -47,6 +47,18 @@ impl<T: Dialer> ToPrimary<T> {
         }
     }
 
+    /// The same by this dialer.
+    pub fn by(&self, dialer: T) -> ToPrimary<T>
+        requires { T.faults dialer ≡ 0 }
+        ensures { ⟦<ToPrimary<T> as Dialer>⟧.faults result ≡ 0 }
+    {
+        ToPrimary {
+            dialer,
+            board: another_board(&self.board),
+            faults: 0,
+        }
+    }
+
     /// One that knows no primary: it fails.
     pub fn nowhere(dialer: T) -> ToPrimary<T>
         requires { T.faults dialer ≡ 0 }

@@ -3,6 +3,7 @@
 //! row says nothing else.
 mod ends;
 mod expiring;
+mod keeping;
 mod late;
 mod log_messages;
 mod logs;
@@ -138,13 +139,6 @@ const ROWS: &[Row] = &[
         replies: &[Replied::HaltHeld, Replied::Permit, Replied::Empty],
         asked: &[Asked::Asks, Asked::Asks, Asked::GivesBack],
         steps: 8,
-        ..GRANTED
-    },
-    // Its transaction isn't reached in 10,000 asks.
-    Row {
-        replies: &[Replied::Ahead, Replied::Empty],
-        written: &[Heard::Held],
-        steps: 10_004,
         ..GRANTED
     },
     // It has ended when it comes.

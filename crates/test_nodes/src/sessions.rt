@@ -75,7 +75,7 @@ pub fn serve_client<
     R: Handles + Copy,
     M: Machine<Ask = Ask, Answer = Answer>,
     L: Link,
-    C: Clock,
+    C: Clock + Copy,
     T: Dialer,
 >(
     at: &mut AtSeat<M, R>,

@@ -60,18 +60,17 @@ const AT_1: &[u8] = b"HTTP/1.1 200 OK\r\nContent-Length: 68\r\n\r\n\
 const AT_3: &[u8] = b"HTTP/1.1 200 OK\r\nContent-Length: 68\r\n\r\n\
     0000000000000007 00000000000003ed 0000000000000003/0000000000000000\n";
 
-const AT_10_000: &[u8] = b"HTTP/1.1 200 OK\r\nContent-Length: 68\r\n\r\n\
-    0000000000000007 00000000000003ed 0000000000002710/0000000000000000\n";
+const AT_200: &[u8] = b"HTTP/1.1 200 OK\r\nContent-Length: 68\r\n\r\n\
+    0000000000000007 00000000000003ed 00000000000000c8/0000000000000000\n";
 
-const AT_10_001: &[u8] = b"HTTP/1.1 200 OK\r\nContent-Length: 68\r\n\r\n\
-    0000000000000007 00000000000003ed 0000000000002711/0000000000000000\n";
-
-/// A permit, how often the machine is asked where it stands, and what the client is answered.
-const ROWS: &[(&[u8], u64, Heard)] = &[
-    (AT_1, 1, Heard::Locked),
-    (AT_3, 3, Heard::Locked),
-    (AT_10_000, 10_000, Heard::Locked),
-    (AT_10_001, 10_000, Heard::Held),
+/// A permit, how the lock is wanted, how often the machine is asked where it stands, and what the client is answered: once
+/// for each try.
+const ROWS: &[(&[u8], Said, u64, Heard)] = &[
+    (AT_1, Said::Lock, 1, Heard::Locked),
+    (AT_3, Said::Lock, 1, Heard::Held),
+    (AT_1, Said::LockInTime, 1, Heard::Locked),
+    (AT_3, Said::LockInTime, 3, Heard::Locked),
+    (AT_200, Said::LockInTime, 200, Heard::Locked),
 ];
 
 /// How often the machine is asked where it stands.
@@ -101,10 +100,11 @@ fn is_waited_for<R: Handles + Copy + Abort>(
     rt: R,
     alloc: Global,
     permit: &[u8],
+    said: Said,
     asks: u64,
     heard: Heard,
 ) {
-    let input = bytes_of(rt, alloc, said_in(Said::Lock));
+    let input = bytes_of(rt, alloc, said_in(said));
     let mut link = link_of(rt, alloc, &input, 99_999, 999);
     let watch = link.watch();
     let (mut dialer, _) = dialer_of(rt, alloc, &[permit, b""], 999);
@@ -117,7 +117,7 @@ fn is_waited_for<R: Handles + Copy + Abort>(
 #[test]
 fn the_position_is_waited_for(rt: HostRuntime) {
     let _named: Option<(TcpListener, TcpStream)> = None;
-    for (permit, asks, heard) in ROWS {
-        is_waited_for(rt, rt.alloc(), *permit, *asks, *heard);
+    for (permit, said, asks, heard) in ROWS {
+        is_waited_for(rt, rt.alloc(), *permit, *said, *asks, *heard);
     }
 }

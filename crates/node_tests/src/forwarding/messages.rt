@@ -15,6 +15,7 @@ pub enum Said {
     Zeros,
     Unlink,
     Unlock,
+    UnlockOfAnother,
     ReadLock,
     Flush,
     BeginLog,
@@ -28,6 +29,7 @@ pub enum Heard {
     Locked,
     LockedAgain,
     Held,
+    HeldAgain,
     ReadOnly,
     Begun,
     PageWritten,
@@ -125,6 +127,12 @@ const UNLOCK: &[Piece] = &[Hex(
     0100000000000000 0100000000000000 4800000000000000 4800000000000000 02000000 00000000 00000000 00000000",
 )];
 
+/// The same of the owner 2.
+const UNLOCK_OF_ANOTHER: &[Piece] = &[Hex(
+    b"58000000 20000000 0900000000000000 0700000000000000 00000000 00000000 00000000 00000000 \
+    0100000000000000 0200000000000000 4800000000000000 4800000000000000 02000000 00000000 00000000 00000000",
+)];
+
 const READ_LOCK: &[Piece] = &[Hex(
     b"58000000 20000000 0900000000000000 0700000000000000 00000000 00000000 00000000 00000000 \
     0100000000000000 0100000000000000 4800000000000000 4800000000000000 00000000 00000000 00000000 00000000",
@@ -148,6 +156,8 @@ const HELD: &[Piece] = &[
     Hex(b"20000000 00000000 0100000000000000 0100000000000000 01000000 00000000"),
     Hex(b"10000000 f5ffffff 0200000000000000"),
 ];
+
+const HELD_AGAIN: &[Piece] = &[Hex(b"10000000 f5ffffff 0200000000000000")];
 
 /// The node doesn't write, `EROFS`.
 const READ_ONLY: &[Piece] = &[
@@ -198,6 +208,7 @@ pub fn said_in(said: Said) -> &'static [Piece] {
         Said::Zeros => ZEROS,
         Said::Unlink => UNLINK,
         Said::Unlock => UNLOCK,
+        Said::UnlockOfAnother => UNLOCK_OF_ANOTHER,
         Said::ReadLock => READ_LOCK,
         Said::Flush => FLUSH,
         Said::BeginLog => log_messages::BEGIN,
@@ -212,6 +223,7 @@ pub fn heard_in(heard: Heard) -> &'static [Piece] {
         Heard::Locked => LOCKED,
         Heard::LockedAgain => LOCKED_AGAIN,
         Heard::Held => HELD,
+        Heard::HeldAgain => HELD_AGAIN,
         Heard::ReadOnly => READ_ONLY,
         Heard::Begun => BEGUN,
         Heard::PageWritten => PAGE_WRITTEN,

@@ -19,8 +19,8 @@ use turn_desk::{Desk, Seat};
 
 pub type MemNode = Node<lf_disk::MemDisk>;
 
-/// A clock that is so many milliseconds on with each reading.
-#[derive(Drop)]
+/// A clock that is so many milliseconds on with each reading. A copy of it goes on from where it is.
+#[derive(Clone, Copy)]
 pub struct Counting {
     next: u64,
     step: u64,
