@@ -1,9 +1,9 @@
 #!/usr/bin/python3
 """Locks and files of a mount: waits for a lock and their ends, locks of open file descriptions, 900 connections of one
-process, a fork in a transaction, and what is refused of files.
+process, a fork in a transaction, a wait for HALT whose primary says nothing, and what is refused of files.
 
 At most: 1200 seconds.
-Seen to fail: with a signal that ends no wait (`waits` never ends); without the FLUSH at a RELEASE (`description_locks`: the lock
+Seen to fail: with one connection for all files (`silent_primary`: a read waits until the primary goes on); with a signal that ends no wait (`waits` never ends); without the FLUSH at a RELEASE (`description_locks`: the lock
 stays); with a handle of the node for each open (`many`: `unable to open database file`)"""
 import errno
 import fcntl
@@ -15,6 +15,7 @@ import subprocess
 import time
 
 from support import Node, Skipped, holds, insert, refuses, run, same, until
+from support.cluster import standing_still
 from support.mount import Mount, ended, in_each_way, need_mount
 
 PENDING = 0x40000000
@@ -32,6 +33,13 @@ try:
     said('granted')
 except TimeoutError:
     said('signal')
+'''
+HALTING = f'''
+import fcntl, struct
+file = os.open(path + '-lock', os.O_RDWR)
+said('asks ')
+fcntl.fcntl(file, fcntl.F_SETLKW, struct.pack('hhqqi4x', fcntl.F_WRLCK, 0, {HALT}, 1, 0))
+said('granted')
 '''
 
 
@@ -76,6 +84,27 @@ def description_locks(way):
         os.close(one)
         until(lambda: tried(lambda: lock(other, fcntl.F_WRLCK, PENDING, F_OFD_SETLK)), 'the lock ends with its description')
         os.close(other)
+
+
+def silent_primary(way):
+    """Who waits for HALT at a replica, whose primary says nothing, holds up nobody else of the mount."""
+    with Node() as node, Node(following=node) as replica, Mount(node, way) as first, Mount(replica, way) as mount:
+        made = first.in_mode('delete')
+        made.execute(*insert(1))
+        made.close()
+        node.level(replica)
+        reader, slowest = mount.connect(), 0
+        with standing_still(node):
+            waiter = mount.client(HALTING)
+            same(waiter.stdout.read(5), 'asks ', 'a process that wants HALT')
+            end = time.monotonic() + 3
+            while time.monotonic() < end:
+                before = time.monotonic()
+                same(reader.execute('select count(*) from t').fetchone(), (1,), 'rows')
+                slowest = max(slowest, time.monotonic() - before)
+        holds(slowest < 1, f'a read meanwhile took {slowest:.1f} s')
+        same(ended(waiter), (0, 'granted'), 'HALT, once the primary answers')
+        reader.close()
 
 
 def tried(call):
@@ -159,5 +188,5 @@ def times(way):
 
 
 need_mount()
-run(in_each_way(waits=waits, description_locks=description_locks, many=many, forked=forked, refused=refused_files,
+run(in_each_way(waits=waits, silent_primary=silent_primary, description_locks=description_locks, many=many, forked=forked, refused=refused_files,
                 dropped=dropped, times=times))

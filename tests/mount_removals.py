@@ -28,8 +28,6 @@ EBUSY = 16
 MODES = ('delete', 'truncate', 'persist')
 ACTS = ('rm', 'sqlite', 'cut', 'empty', 'create', 'zeros', 'by_path')
 MOMENTS, ENDS, PLACES = ('begun', 'spilled', 'commit'), ('kill', 'rollback', 'commit'), ('process', 'thread', 'namespace')
-WAYS_OF_A_TURN = list(itertools.product(PLACES, ENDS, MOMENTS))
-TURNS = length(1, 8)
 SPILLING, ROOMY = 5, 2000
 ALL_ROWS = 'update t set v=v+1, c=randomblob(300)'
 MADE = ('drop table t', 'create table t(a integer primary key, v, c)', 'create index i on t(v)',
@@ -210,7 +208,11 @@ def need_namespaces():
 
 
 def torn(act):
-    return lambda mode: turns(act, mode, WAYS_OF_A_TURN * TURNS)
+    """In the gate in one of the places, another for each act and mode; in a long run 216 turns, in all of them."""
+    def case(mode):
+        place = PLACES[(ACTS.index(act) + MODES.index(mode)) % len(PLACES)]
+        turns(act, mode, itertools.product(length([place], sorted(PLACES * 8)), ENDS, MOMENTS))
+    return case
 
 
 def turns(act, mode, ways, before=()):
@@ -230,8 +232,7 @@ def turns(act, mode, ways, before=()):
 
 def unseen(mode):
     """The program in a pid namespace of its own sees no process. What removes a journal then is who has closed it."""
-    ways = [('process', end, moment) for end in ENDS for moment in MOMENTS] * length(2, 12)
-    turns('rm', mode, ways, before=['unshare', '-p', '--fork', '--kill-child'])
+    turns('rm', mode, itertools.product(['process'] * length(1, 22), ENDS, MOMENTS), before=['unshare', '-p', '--fork', '--kill-child'])
 
 
 def own_thread(mode):
@@ -258,13 +259,15 @@ def log(way):
     with Node() as node, Mount(node, way) as mount, bare_folder() as bare:
         made = mount.in_mode('wal')
         for place in ('process', 'thread', 'namespace', 'bare'):
+            made.execute('pragma wal_checkpoint(truncate)')
             with Process(mount, STRANGER, place, bare=bare, filled=False) as stranger:
-                for act in ['log', 'index']:
-                    same(stranger.asked(f'{act} 0'), str(EBUSY), f'removal of the {act} by a {place}')
                 if place == 'bare':
                     same(stranger.asked('bare 0'), 'ok', 'a connection to an empty database in the bare folder')
                     stranger.asked('sqlite 0')
+                else:
+                    told = [stranger.asked(f'{act} 0') for act in ('log', 'index')]
             made.execute('insert into t values(null,1,1)')
+            same(told, [str(EBUSY)] * 2, f'removals of log and index by a {place}')
         same(made.execute('select count(*) from t').fetchone(), (4,), 'rows')
         made.close()
         same([os.path.exists(mount.path + ending) for ending in ('-wal', '-shm')], [False] * 2, 'what is left')

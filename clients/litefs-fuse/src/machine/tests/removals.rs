@@ -241,6 +241,7 @@ fn who_can_not_be_seen_removes_a_journal_that_its_writer_has_closed() {
         files.flushes(files.journal, OTHER);
         assert_eq!(files.removal(thread), Err(16));
         files.flushes(files.journal, OWNER);
+        files.flushes(files.journal, OTHER);
         assert_eq!(files.removal(thread), Ok(OWNER));
         files.writes(OWNER, 512, b"page");
         assert_eq!(files.removal(thread), Err(16));
