@@ -102,7 +102,7 @@ def silent_primary(way):
                 before = time.monotonic()
                 same(reader.execute('select count(*) from t').fetchone(), (1,), 'rows')
                 slowest = max(slowest, time.monotonic() - before)
-        holds(slowest < 1, f'a read meanwhile took {slowest:.1f} s')
+        holds(slowest < 10, f'a read meanwhile took {slowest:.1f} s')
         same(ended(waiter), (0, 'granted'), 'HALT, once the primary answers')
         reader.close()
 
